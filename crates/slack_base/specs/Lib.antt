@@ -1,0 +1,4 @@
+pub mod Bounds
+pub mod Messages
+pub mod Numbers
+pub mod Operations
