@@ -1,0 +1,11 @@
+use Rattle.std.proofs.Common.{◌≡◌, ◌+◌, ◌-◌, ◌≤◌, ◌∙◌, ℕ, take, drop, length, ap, arith, rules}
+use Rattle.io_edge.specs.Streams.{with_after}
+use Rattle.io_edge.proofs.Written.{written_more}
+use Rattle.io_edge.proofs.whole.write_all.Goals as goal
+
+pub loop-done-preserved : goal.loop-done-preserved
+loop-done-preserved g c = record {
+  within = search rules;
+  written = written_more _ _ _ _ _ _ c.loop-done.invariant.written c.in_ok-done.ensures.appended.2;
+  faults = search rules;
+}

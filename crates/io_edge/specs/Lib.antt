@@ -1,0 +1,6 @@
+pub mod Counting
+pub mod Streams
+pub mod Supply
+pub mod Store
+pub mod Whole
+pub mod Tally
