@@ -1,4 +1,6 @@
 pub mod Bounds
+pub mod Images
 pub mod Messages
 pub mod Numbers
 pub mod Operations
+pub mod Stamps
