@@ -1,0 +1,4 @@
+pub mod Words
+pub mod Alu
+pub mod Branch
+pub mod Target
