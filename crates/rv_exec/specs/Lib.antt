@@ -2,3 +2,4 @@ pub mod Words
 pub mod Alu
 pub mod Branch
 pub mod Target
+pub mod Access

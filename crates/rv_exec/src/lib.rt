@@ -4,12 +4,18 @@
 //! two's complement. The rules are those of the RISC-V Unprivileged ISA (20191213), chapters 2, 7 and 8.
 #![tactic(auto)]
 
+pub mod atomics;
 pub mod branches;
 mod divisions;
+pub mod loads;
 pub mod operations;
 mod products;
+pub mod stores;
 pub mod targets;
 
+pub use atomics::amo_result;
 pub use branches::branch_taken;
+pub use loads::load_part;
 pub use operations::alu;
+pub use stores::store_part;
 pub use targets::target;
