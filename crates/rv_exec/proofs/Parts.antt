@@ -5,7 +5,7 @@ use Rattle.std.specs.Int.{w16}
 use Rattle.std.proofs.lemmas.Int.{ints, to_z-of_z}
 use Rattle.std.proofs.lemmas.Bool.Decides.{nat_tests}
 use Rattle.rv_exec.proofs.Readings.{word_of_is}
-use Rattle.rv_exec.specs.Access.{byte_of, bytes_of, number_of, part_of, replaced, sign_extended}
+use Rattle.rv_exec.specs.Access.{byte_of, bytes_of, number_of, part_of, word_with, sign_extension}
 
 -- ---- loads
 
@@ -33,18 +33,18 @@ word_part w (suc k) b h e = absurd (omega arith)
 -- ---- signs
 
 -- the same number, whose word is made with 2^32 more where it is negative
-extended : (bits n : ℕ) → n < 2 ^ bits → bits ≤ 32 → 2 ^ bits ≤ 2 ^ 32 → sign_extended bits n ≡ cond (nat_lt n (2 ^ (bits - 1))) n (n + (2 ^ 32 - 2 ^ bits))
-unfolding sign_extended
+extended : (bits n : ℕ) → n < 2 ^ bits → bits ≤ 32 → 2 ^ bits ≤ 2 ^ 32 → sign_extension bits n ≡ cond (nat_lt n (2 ^ (bits - 1))) n (n + (2 ^ 32 - 2 ^ bits))
+unfolding sign_extension
 extended bits n h b p =
     let z : pos n -ℤ pos (2 ^ bits) +ℤ pos (1 * 2 ^ 32) ≡ pos (n + (2 ^ 32 - 2 ^ bits)) = omega (arith, ints) in
     let e = word_of_is (pos n -ℤ pos (2 ^ bits)) 1 (n + (2 ^ 32 - 2 ^ bits)) z in
     let m : (n + (2 ^ 32 - 2 ^ bits)) % 2 ^ 32 ≡ n + (2 ^ 32 - 2 ^ bits) = omega arith in
     ap (λ w. cond (nat_lt n (2 ^ (bits - 1))) n w) (sym e ∙ m)
 
-pub extended-byte : (n : ℕ) → n < 2 ^ 8 → of_z w32 (to_z w8 n) ≡ sign_extended 8 n
+pub extended-byte : (n : ℕ) → n < 2 ^ 8 → of_z w32 (to_z w8 n) ≡ sign_extension 8 n
 extended-byte n h = rw (extended 8 n h (omega arith) (omega arith)) (grind (arith, ints, nat_tests))
 
-pub extended-half : (n : ℕ) → n < 2 ^ 16 → of_z w32 (to_z w16 n) ≡ sign_extended 16 n
+pub extended-half : (n : ℕ) → n < 2 ^ 16 → of_z w32 (to_z w16 n) ≡ sign_extension 16 n
 extended-half n h = rw (extended 16 n h (omega arith) (omega arith)) (grind (arith, ints, nat_tests))
 
 pub ruleset signs = (extended-byte, extended-half, to_z-of_z)
@@ -90,23 +90,23 @@ shifted k n w v h m =
     let value : bit_and v (2 ^ n - 1) * 2 ^ k % 2 ^ 32 ≡ v % 2 ^ n * 2 ^ k = ap (λ x. x * 2 ^ k % 2 ^ 32) field ∙ mod-eq_of_lt below in
     ap₂ (λ x y. bit_or (bit_and w (2 ^ 32 - 1 - x)) y) mask value ∙ placed k n w v h m
 
-pub byte_replaced : (w k v : ℕ) → w < 2 ^ 32 → k < 4 → bit_or (bit_and w (2 ^ 32 - 1 - 255 * 2 ^ (8 * k) % 2 ^ 32)) (bit_and v 255 * 2 ^ (8 * k) % 2 ^ 32) ≡ replaced 1 w k v
-unfolding replaced
+pub byte_replaced : (w k v : ℕ) → w < 2 ^ 32 → k < 4 → bit_or (bit_and w (2 ^ 32 - 1 - 255 * 2 ^ (8 * k) % 2 ^ 32)) (bit_and v 255 * 2 ^ (8 * k) % 2 ^ 32) ≡ word_with 1 w k v
+unfolding word_with
 byte_replaced w zero v b h = shifted 0 8 w v b (omega arith) ∙ omega arith
 byte_replaced w (suc zero) v b h = shifted 8 8 w v b (omega arith) ∙ omega arith
 byte_replaced w (suc (suc zero)) v b h = shifted 16 8 w v b (omega arith) ∙ omega arith
 byte_replaced w (suc (suc (suc zero))) v b h = shifted 24 8 w v b (omega arith) ∙ omega arith
 byte_replaced w (suc (suc (suc (suc k)))) v b h = absurd (omega arith)
 
-pub half_replaced : (w k v : ℕ) → w < 2 ^ 32 → k < 4 → k % 2 ≡ 0 → bit_or (bit_and w (2 ^ 32 - 1 - 65535 * 2 ^ (8 * k) % 2 ^ 32)) (bit_and v 65535 * 2 ^ (8 * k) % 2 ^ 32) ≡ replaced 2 w k v
-unfolding replaced
+pub half_replaced : (w k v : ℕ) → w < 2 ^ 32 → k < 4 → k % 2 ≡ 0 → bit_or (bit_and w (2 ^ 32 - 1 - 65535 * 2 ^ (8 * k) % 2 ^ 32)) (bit_and v 65535 * 2 ^ (8 * k) % 2 ^ 32) ≡ word_with 2 w k v
+unfolding word_with
 half_replaced w zero v b h e = shifted 0 16 w v b (omega arith) ∙ omega arith
 half_replaced w (suc zero) v b h e = absurd (omega arith)
 half_replaced w (suc (suc zero)) v b h e = shifted 16 16 w v b (omega arith) ∙ omega arith
 half_replaced w (suc (suc (suc zero))) v b h e = absurd (omega arith)
 half_replaced w (suc (suc (suc (suc k)))) v b h e = absurd (omega arith)
 
-pub word_replaced : (w k v : ℕ) → v < 2 ^ 32 → k < 4 → k % 4 ≡ 0 → replaced 4 w k v ≡ v
-unfolding replaced
+pub word_replaced : (w k v : ℕ) → v < 2 ^ 32 → k < 4 → k % 4 ≡ 0 → word_with 4 w k v ≡ v
+unfolding word_with
 word_replaced w zero v b h e = omega arith
 word_replaced w (suc k) v b h e = absurd (omega arith)

@@ -58,23 +58,23 @@ unfoldable pub part_of : ℕ → ℕ → ℕ → ℕ
 part_of size w k = number_of (take size (drop k (bytes_of w)))
 
 -- the word w with so many bytes, from byte k on, replaced by the lowest of v
-unfoldable pub replaced : ℕ → ℕ → ℕ → ℕ → ℕ
-replaced size w k v = number_of (take k (bytes_of w) ++ take size (bytes_of v) ++ drop (k + size) (bytes_of w))
+unfoldable pub word_with : ℕ → ℕ → ℕ → ℕ → ℕ
+word_with size w k v = number_of (take k (bytes_of w) ++ take size (bytes_of v) ++ drop (k + size) (bytes_of w))
 
 -- the word of the signed number that n is at so many bits: its highest bit fills the bits above
-unfoldable pub sign_extended : ℕ → ℕ → ℕ
-sign_extended bits n = if nat_lt n (2 ^ (bits - 1)) then n else word_of (pos n -ℤ pos (2 ^ bits))
+unfoldable pub sign_extension : ℕ → ℕ → ℕ
+sign_extension bits n = if nat_lt n (2 ^ (bits - 1)) then n else word_of (pos n -ℤ pos (2 ^ bits))
 
 -- what a load of the word w from byte k on gives
 unfoldable pub load_of : LoadOp → ℕ → ℕ → ℕ
-load_of Lb w k = sign_extended 8 (part_of 1 w k)
-load_of Lh w k = sign_extended 16 (part_of 2 w k)
+load_of Lb w k = sign_extension 8 (part_of 1 w k)
+load_of Lh w k = sign_extension 16 (part_of 2 w k)
 load_of Lw w k = part_of 4 w k
 load_of Lbu w k = part_of 1 w k
 load_of Lhu w k = part_of 2 w k
 
 -- the word w after a store of v from byte k on
 unfoldable pub store_of : StoreOp → ℕ → ℕ → ℕ → ℕ
-store_of Sb w k v = replaced 1 w k v
-store_of Sh w k v = replaced 2 w k v
-store_of Sw w k v = replaced 4 w k v
+store_of Sb w k v = word_with 1 w k v
+store_of Sh w k v = word_with 2 w k v
+store_of Sw w k v = word_with 4 w k v

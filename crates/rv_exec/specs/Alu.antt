@@ -10,8 +10,8 @@ abbrev pub flag_of : Bool → ℕ
 flag_of holds = if holds then 1 else 0
 
 -- a shift takes its amount from the low five bits of the second operand
-abbrev pub shift_of : ℕ → ℕ
-shift_of b = b % 32
+abbrev pub shift_amount : ℕ → ℕ
+shift_amount b = b % 32
 
 -- the high 32 bits of the 64-bit product
 unfoldable pub high_of : ℤ → ℕ
@@ -40,9 +40,9 @@ alu_of Or a b = bit_or a b
 alu_of Xor a b = bit_xor a b
 alu_of Slt a b = flag_of (int_lt (signed_of a) (signed_of b))
 alu_of Sltu a b = flag_of (nat_lt a b)
-alu_of Sll a b = (a * 2 ^ shift_of b) % 2 ^ 32
-alu_of Srl a b = a / 2 ^ shift_of b
-alu_of Sra a b = word_of (int_div_euclid (signed_of a) (pos (2 ^ shift_of b)))
+alu_of Sll a b = (a * 2 ^ shift_amount b) % 2 ^ 32
+alu_of Srl a b = a / 2 ^ shift_amount b
+alu_of Sra a b = word_of (int_div_euclid (signed_of a) (pos (2 ^ shift_amount b)))
 alu_of Mul a b = (a * b) % 2 ^ 32
 alu_of Mulh a b = high_of (signed_of a *ℤ signed_of b)
 alu_of Mulhsu a b = high_of (signed_of a *ℤ pos b)

@@ -7,6 +7,7 @@
 pub mod atomics;
 pub mod branches;
 mod divisions;
+pub mod laws;
 pub mod loads;
 pub mod operations;
 mod products;

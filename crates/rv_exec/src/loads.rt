@@ -1,6 +1,6 @@
 //! What a load takes of a word.
 ghost use Rattle.std.specs.Prelude.{◌≡◌, ◌<◌, ◌%◌, IsTrue};
-ghost use Rattle.rv_exec.specs.Access.{is_aligned_load, load_of, part_of, sign_extended};
+ghost use Rattle.rv_exec.specs.Access.{is_aligned_load, load_of, part_of, sign_extension};
 
 use slack_base::LoadOp;
 
@@ -40,14 +40,14 @@ fn half_at(word: u32, byte: u32) -> u16
 
 #[tactic(auto, using(crate::proofs::Parts::signs))]
 fn extended_byte(byte: u8) -> u32
-    ensures { result ≡ sign_extended 8 byte }
+    ensures { result ≡ sign_extension 8 byte }
 {
     i32::from(byte.cast_signed()).cast_unsigned()
 }
 
 #[tactic(auto, using(crate::proofs::Parts::signs))]
 fn extended_half(half: u16) -> u32
-    ensures { result ≡ sign_extended 16 half }
+    ensures { result ≡ sign_extension 16 half }
 {
     i32::from(half.cast_signed()).cast_unsigned()
 }

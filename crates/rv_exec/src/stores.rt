@@ -1,6 +1,6 @@
 //! What a store leaves of a word.
 ghost use Rattle.std.specs.Prelude.{◌≡◌, ◌<◌, ◌%◌, IsTrue};
-ghost use Rattle.rv_exec.specs.Access.{is_aligned_store, replaced, store_of};
+ghost use Rattle.rv_exec.specs.Access.{is_aligned_store, word_with, store_of};
 
 use slack_base::StoreOp;
 
@@ -22,7 +22,7 @@ pub fn store_part(op: StoreOp, word: u32, byte: u32, value: u32) -> u32
 #[tactic(auto, using(crate::proofs::Parts::byte_replaced))]
 fn with_byte(word: u32, byte: u32, value: u32) -> u32
     requires { byte < 4 }
-    ensures { result ≡ replaced 1 word byte value }
+    ensures { result ≡ word_with 1 word byte value }
 {
     let shift = 8 * byte;
     (word & !(0xff << shift)) | ((value & 0xff) << shift)
@@ -32,7 +32,7 @@ fn with_byte(word: u32, byte: u32, value: u32) -> u32
 fn with_half(word: u32, byte: u32, value: u32) -> u32
     requires within { byte < 4 }
     requires aligned { byte % 2 ≡ 0 }
-    ensures { result ≡ replaced 2 word byte value }
+    ensures { result ≡ word_with 2 word byte value }
 {
     let shift = 8 * byte;
     (word & !(0xffff << shift)) | ((value & 0xffff) << shift)
