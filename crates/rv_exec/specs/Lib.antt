@@ -1,0 +1,5 @@
+pub mod Words
+pub mod Alu
+pub mod Branch
+pub mod Target
+pub mod Access
