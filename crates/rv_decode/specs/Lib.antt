@@ -1,0 +1,5 @@
+pub mod Decoding
+pub mod Encodes
+pub mod Fields
+pub mod Operations
+pub mod Ranges
