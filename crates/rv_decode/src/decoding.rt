@@ -15,6 +15,8 @@ pub fn decode(bits: u32) -> Option<Instr>
     ensures found { IfSome result (λ i. Encodes bits i × IsInRange i) }
     ensures none { IfNone result ((i : Instr) → Encodes bits i → ⊥) }
     ensures only { (i : Instr) → Encodes bits i → result ≡ Some i }
+    // The same, as a function of the word.
+    ensures value { result ≡ instr_of bits }
 {
     instruction(bits)
 }

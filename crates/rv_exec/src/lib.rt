@@ -13,6 +13,7 @@ pub mod operations;
 mod products;
 pub mod stores;
 pub mod targets;
+pub mod words;
 
 pub use atomics::amo_result;
 pub use branches::branch_taken;
@@ -20,3 +21,4 @@ pub use loads::load_part;
 pub use operations::alu;
 pub use stores::store_part;
 pub use targets::target;
+pub use words::word;

@@ -1,0 +1,43 @@
+//! The instruction memory: the image as it was loaded, which fetches read and nothing writes.
+ghost use Rattle.std.specs.Prelude.{◌≡◌};
+
+use byteorder::{ByteOrder, LittleEndian};
+use std::marker::Model;
+
+/// The bytes of memory as they were loaded.
+#[derive(Drop)]
+pub struct Code {
+    base: u32,
+    bytes: Vec<u8>,
+}
+
+impl Model for Code {
+    ghost use Rattle.std.specs.Prelude.{◌≡◌, ◌+◌, ◌%◌, ◌^◌, ◌≤◌, vec_len};
+    ghost use Rattle.lockstep_model.specs.Code.{CodeValue};
+
+    ghost Value = { CodeValue };
+
+    ghost view = { λ c. record { base = c.base; bytes = c.bytes.items } };
+
+    ghost invariant = { λ c. (c.base % 4 ≡ 0) × (vec_len c.bytes % 4 ≡ 0) × (c.base + vec_len c.bytes ≤ 2 ^ 32) };
+}
+
+impl Code {
+    ghost use Rattle.std.specs.Prelude.{◌≡◌};
+    ghost use Rattle.lockstep_model.specs.Code.{word_at};
+
+    /// The little-endian word at an address: none outside memory, and none off a multiple of 4.
+    #[tactic(auto, unfolding(crate::specs::Code::word_at))]
+    pub fn word(&self, address: u32) -> Option<u32>
+        ensures { result ≡ word_at self.now address }
+    {
+        if address < self.base || address % 4 != 0 {
+            return None;
+        }
+        let offset = (address - self.base) as usize;
+        if offset >= self.bytes.len() {
+            return None;
+        }
+        Some(LittleEndian::read_u32(&self.bytes[offset..]))
+    }
+}
