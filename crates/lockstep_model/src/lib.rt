@@ -1,6 +1,8 @@
 //! The machine that is simulated, cycle by cycle.
 #![tactic(auto)]
 
+pub mod channels;
 pub mod code;
 pub mod effects;
+pub mod machine;
 pub mod timed_cores;

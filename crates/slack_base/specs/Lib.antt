@@ -1,5 +1,6 @@
 pub mod Bounds
 pub mod Images
+pub mod Lending
 pub mod Messages
 pub mod Numbers
 pub mod Operations

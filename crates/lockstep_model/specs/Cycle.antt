@@ -1,0 +1,89 @@
+-- One cycle of a machine, and lockstep: one cycle after another. What a tick of a core and the serving of an ask do
+-- are rules that the machine brings along.
+use Rattle.std.specs.Prelude.{◌≡◌, ℕ, ◌+◌, ◌==◌, ◌&&◌, ◌||◌, Bool, true, List, [], ◌∷◌, ◌++◌, map, filter, nat_le, nat_lt, zero, suc, if◌then◌else◌}
+use Rattle.std.specs.List.{flat_map, list_all}
+use Rattle.std.specs.Ordering.{is_gt}
+use Rattle.slack_base.specs.declared.messages.Ask.{Ask}
+use Rattle.slack_base.specs.declared.messages.Post.{Post}
+use Rattle.slack_base.specs.Stamps.{id_cmp}
+
+-- a core: all that its ticks read and change, and the posts that wait for it, in order of (due, id)
+pub record CoreValue (Inner : Type 0) : Type 0 where
+  pub inner : Inner
+  pub inbox : List Post
+
+pub record State (Inner Chan : Type 0) : Type 0 where
+  pub clock : ℕ
+  pub cores : List (CoreValue Inner)
+  pub chans : List Chan
+
+pub record Rules (Inner Chan : Type 0) : Type 0 where
+  -- a tick at a clock, with the posts that are due in their order: the core after it, and the asks that it sends in
+  -- their order
+  pub tick : Inner → ℕ → List Post → Inner × List Ask
+  -- the serving of an ask: the channel after it, and the posts that it sends in their order
+  pub serve : Chan → Ask → Chan × List Post
+  -- the number of the channel that an ask is of
+  pub channel_of : Ask → ℕ
+  -- the core has ended
+  pub has_ended : Inner → Bool
+
+-- the value at a place changed by f, which gives something beside it; nothing past the end
+abbrev pub changed_at : {X Y : Type 0} → ℕ → (X → X × List Y) → List X → List X × List Y
+changed_at n f [] = ([], [])
+changed_at zero f (x ∷ xs) = ((f x).0 ∷ xs, (f x).1)
+changed_at (suc n) f (x ∷ xs) = (x ∷ (changed_at n f xs).0, (changed_at n f xs).1)
+
+-- the post comes later than the other, by (due, id)
+abbrev pub is_later : Post → Post → Bool
+is_later q p = nat_lt p.due q.due || ((p.due == q.due) && is_gt (id_cmp q.id p.id))
+
+-- the inbox with one more post, behind those that are no later
+abbrev pub with_post : List Post → Post → List Post
+with_post [] p = p ∷ []
+with_post (q ∷ inbox) p = if is_later q p then p ∷ q ∷ inbox else q ∷ with_post inbox p
+
+module _ {Inner Chan : Type 0} (rules : Rules Inner Chan) where
+  -- a tick at clock t takes the due posts out of the inbox
+  abbrev pub tick_of : ℕ → CoreValue Inner → CoreValue Inner × List Ask
+  tick_of t core =
+      let ticked = rules.tick core.inner t (filter (λ p. nat_le p.due t) core.inbox) in
+      (record { inner = ticked.0; inbox = filter (λ p. nat_lt t p.due) core.inbox }, ticked.1)
+
+  -- the asks of all ticks at clock t: in core order, and of a core in the order in which it sends them. This is the
+  -- order of their ids
+  abbrev pub asks_of : ℕ → List (CoreValue Inner) → List Ask
+  asks_of t cores = flat_map (λ core. (tick_of t core).1) cores
+
+  -- asks are served one after another, each on its channel
+  abbrev pub through : List Chan → List Ask → List Chan × List Post
+  through chans [] = (chans, [])
+  through chans (ask ∷ asks) =
+      let served = changed_at (rules.channel_of ask) (λ chan. rules.serve chan ask) chans in
+      let rest = through served.0 asks in
+      (rest.0, served.1 ++ rest.1)
+
+  -- posts go into the inboxes of the cores that they are addressed to
+  abbrev pub delivered : List (CoreValue Inner) → List Post → List (CoreValue Inner)
+  delivered cores [] = cores
+  delivered cores (p ∷ posts) =
+      delivered (changed_at {Y = Post} p.to (λ core. (record core { inbox = with_post core.inbox p }, [])) cores).0 posts
+
+  -- one cycle: all cores tick, their asks are served, the posts of these are delivered
+  unfoldable pub cycle : State Inner Chan → State Inner Chan
+  cycle s =
+      let served = through s.chans (asks_of s.clock s.cores) in
+      record {
+        clock = s.clock + 1;
+        cores = delivered (map (λ core. (tick_of s.clock core).0) s.cores) served.1;
+        chans = served.0;
+      }
+
+  -- k cycles
+  unfoldable pub lockstep : State Inner Chan → ℕ → State Inner Chan
+  lockstep s zero = s
+  lockstep s (suc k) = cycle (lockstep s k)
+
+  -- all cores have ended
+  abbrev pub all_ended : State Inner Chan → Bool
+  all_ended s = list_all (λ core. rules.has_ended core.inner) s.cores

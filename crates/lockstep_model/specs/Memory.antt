@@ -1,0 +1,17 @@
+-- What memory holds before the first cycle.
+use Rattle.std.specs.Prelude.{ℕ, ◌+◌, ◌-◌, ◌<◌, ◌≤◌, ◌&&◌, Bool, List, [], ◌∷◌, map, nat_le, nat_lt, slice_index, if◌then◌else◌}
+use Rattle.std.specs.List.{range_with_len}
+use Rattle.slack_base.specs.declared.images.Segment.{Segment}
+
+-- the address lies in the segment
+abbrev pub is_in : Segment → ℕ → Bool
+is_in s address = nat_le s.address address && nat_lt address (s.address + s.size)
+
+-- the byte at an address: that of the segment in which it lies, and 0 past the segment's bytes and outside segments
+abbrev pub byte_at : List Segment → ℕ → ℕ
+byte_at [] address = 0
+byte_at (s ∷ segments) address = if is_in s address then slice_index s.bytes (address - s.address) else byte_at segments address
+
+-- the bytes of so many addresses from base on
+unfoldable pub bytes_from : List Segment → ℕ → ℕ → List ℕ
+bytes_from segments base size = map (byte_at segments) (range_with_len base size)
