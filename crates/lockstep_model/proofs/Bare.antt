@@ -19,8 +19,6 @@ replaced_all old new e =
     ∙ take_all (length old) new (omega arith)
 
 module _ (code : CodeValue) (t : ℕ) where
-
-
   bare_asks : (cores : List Inner) → asks_of (rules_of code) t (map bare cores) ≡ flat_map (λ core. (tick code core t).1) cores
   bare_asks [] = refl
   bare_asks (core ∷ cores) = ap (λ xs. (tick code core t).1 ++ xs) (bare_asks cores)
@@ -63,13 +61,13 @@ module _ (code : CodeValue) (t : ℕ) where
   stored cores slice new_cores chans row cleared asks text d after one none all_cores ticks sends all_chans all_asks serves =
       let ticked : new_cores ≡ map (λ core. (tick code core t).0) cores = ticks ∙ ap (map (λ core. (tick code core t).0)) all_cores in
       let whole_cores : replaced cores new_cores ≡ map (λ core. (tick code core t).0) cores =
-          replaced_all cores new_cores (ap length ticked ∙ length-map cores (λ core. (tick code core t).0)) ∙ ticked in
+      replaced_all cores new_cores (ap length ticked ∙ length-map cores (λ core. (tick code core t).0)) ∙ ticked in
       let whole_chans : replaced chans (set row 0 after) ≡ set chans 0 after =
-          replaced_all chans (set row 0 after) (length-set row 0 after ∙ ap length all_chans) ∙ ap (λ xs. set xs 0 after) all_chans in
+      replaced_all chans (set row 0 after) (length-set row 0 after ∙ ap length all_chans) ∙ ap (λ xs. set xs 0 after) all_chans in
       let sent : text ≡ flat_map (λ core. (tick code core t).1) cores =
-          all_asks ∙ sends ∙ ap (λ xs. xs ++ flat_map (λ core. (tick code core t).1) slice) none ∙ ap (flat_map (λ core. (tick code core t).1)) all_cores in
+      all_asks ∙ sends ∙ ap (λ xs. xs ++ flat_map (λ core. (tick code core t).1) slice) none ∙ ap (flat_map (λ core. (tick code core t).1)) all_cores in
       let served : after ≡ fold put_on (get_or chans 0 d) (flat_map (λ core. (tick code core t).1) cores) =
-          serves ∙ ap (λ xs. fold put_on (get_or xs 0 d) text) all_chans ∙ ap (fold put_on (get_or chans 0 d)) sent in
+      serves ∙ ap (λ xs. fold put_on (get_or xs 0 d) text) all_chans ∙ ap (fold put_on (get_or chans 0 d)) sent in
       ap (λ xs. record { clock = t + 1; cores = map bare xs; chans = replaced chans (set row 0 after) }) whole_cores
       ∙ ap (λ xs. record { clock = t + 1; cores = map bare (map (λ core. (tick code core t).0) cores); chans = xs }) whole_chans
       ∙ stored_one cores chans d after one served

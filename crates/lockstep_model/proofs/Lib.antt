@@ -1,2 +1,4 @@
 pub mod InPlace
 pub mod Bare
+pub mod Lockstep
+pub mod AllEnded

@@ -54,6 +54,6 @@ first_core config entry number = record {
 abbrev pub start_of : RawConfig → Image → State Inner (List ℕ)
 start_of config image = record {
   clock = 0;
-  cores = map (λ number. bare (first_core config image.entry number)) (range_with_len 0 config.cores);
+  cores = map bare (map (first_core config image.entry) (range_with_len 0 config.cores));
   chans = [] ∷ [];
 }

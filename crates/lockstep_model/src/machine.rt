@@ -1,17 +1,17 @@
 //! The machine and its cycles.
-ghost use Rattle.std.specs.Prelude.{◌≡◌, ◌+◌, ◌-◌, ◌<◌, ◌≤◌, ◌^◌, ◌++◌, map, length, fold, OnOk, IfOk};
-ghost use Rattle.std.specs.List.{flat_map};
+ghost use Rattle.std.specs.Prelude.{◌≡◌, ◌+◌, ◌-◌, ◌<◌, ◌≤◌, ◌^◌, ◌++◌, map, length, fold, not, OnOk, IfOk};
+ghost use Rattle.std.specs.List.{flat_map, list_all, range_with_len};
 ghost use Rattle.slack_base.specs.Images.{Fits};
 ghost use Rattle.slack_base.specs.Numbers.{numbers_of};
 ghost use Rattle.lockstep_model.specs.Cycle.{through, cycle as cycle_of, lockstep, all_ended};
-ghost use Rattle.lockstep_model.specs.Ticks.{tick};
-ghost use Rattle.lockstep_model.specs.Machine.{put_on, rules_of, start_of, code_of};
+ghost use Rattle.lockstep_model.specs.Ticks.{tick, is_running};
+ghost use Rattle.lockstep_model.specs.Machine.{put_on, rules_of, start_of, code_of, first_core};
 ghost use Rattle.lockstep_model.specs.Views.{state_of};
 
 use crate::channels::Channel;
 use crate::code::Code;
 use crate::timed_cores::TimedCore;
-use slack_base::{Ask, AskList, Config, OutOfMemory, Row};
+use slack_base::{Ask, AskList, Config, Image, OutOfMemory, Row};
 use std::alloc::Global;
 
 /// The cores of a machine, by number.
@@ -70,6 +70,7 @@ fn cycle_with(
     requires clock { machine.old.clock < 2 ^ 62 }
     requires chans { length machine.old.chans ≡ 1 }
     ensures state { OnOk result (state_of machine.new ≡ cycle_of (rules_of target.now.code) (state_of machine.old)) }
+    ensures clock { OnOk result (machine.new.clock ≡ machine.old.clock + 1) }
     ensures chans { OnOk result (length machine.new.chans ≡ 1) }
 {
     asks.clear();
@@ -82,4 +83,75 @@ fn cycle_with(
     serve_all(&mut machine.chans.as_mut_slice()[0], asks.as_slice())?;
     machine.clock += 1;
     Ok(())
+}
+
+/// One cycle.
+pub fn cycle(alloc: Global, target: &RvTarget, machine: &mut Machine) -> Result<(), OutOfMemory>
+    requires clock { machine.old.clock < 2 ^ 62 }
+    requires chans { length machine.old.chans ≡ 1 }
+    ensures state { OnOk result (state_of machine.new ≡ cycle_of (rules_of target.now.code) (state_of machine.old)) }
+    ensures chans { OnOk result (length machine.new.chans ≡ 1) }
+{
+    cycle_with(target, machine, &mut AskList::new(alloc))
+}
+
+/// The cycles up to a clock.
+pub fn run_to(
+    alloc: Global,
+    target: &RvTarget,
+    machine: &mut Machine,
+    clock: u64,
+) -> Result<(), OutOfMemory>
+    requires order { machine.old.clock ≤ clock }
+    requires top { clock ≤ 2 ^ 62 }
+    requires chans { length machine.old.chans ≡ 1 }
+    ensures state { OnOk result (state_of machine.new ≡ lockstep (rules_of target.now.code) (state_of machine.old) (clock - machine.old.clock)) }
+    ensures clock { OnOk result (machine.new.clock ≡ clock) }
+    ensures chans { OnOk result (length machine.new.chans ≡ 1) }
+{
+    let mut asks = AskList::new(alloc);
+    while machine.clock < clock {
+        cycle_with(target, machine, &mut asks)?;
+    }
+    Ok(())
+}
+
+/// Whether all cores have ended.
+pub fn stopped(target: &RvTarget, machine: &Machine) -> bool
+    ensures { result ≡ all_ended (rules_of target.now.code) (state_of machine.now) }
+{
+    all_have_ended(machine.cores.as_slice())
+}
+
+fn all_have_ended(cores: &[TimedCore]) -> bool
+    ensures { result ≡ list_all (λ core. not (is_running core.ended)) cores.now }
+{
+    cores.iter().all(|core| core.has_ended())
+}
+
+/// The machine of an image before the first cycle. The target was made of the same image.
+pub fn start(alloc: Global, target: &RvTarget, image: &Image) -> Result<Machine, OutOfMemory>
+    requires { target.now.code ≡ code_of image.now (numbers_of target.now.config) }
+    ensures state { IfOk result (λ machine. state_of machine ≡ start_of (numbers_of target.now.config) image.now) }
+    ensures chans { IfOk result (λ machine. length machine.chans ≡ 1) }
+{
+    let config = &target.config;
+    let mut chans = ChanList::new(alloc);
+    chans.push(Channel::console(alloc))?;
+    Ok(Machine {
+        clock: 0,
+        cores: first_cores(alloc, config, image.entry)?,
+        chans,
+    })
+}
+
+/// The cores before the first cycle.
+fn first_cores(alloc: Global, config: &Config, entry: u32) -> Result<CoreList, OutOfMemory>
+    ensures { IfOk result (λ cores. cores ≡ map (first_core (numbers_of config.now) entry) (range_with_len 0 config.now.cores)) }
+{
+    let mut cores = CoreList::new(alloc);
+    for number in 0..config.cores {
+        cores.push(TimedCore::new(number, config, entry))?;
+    }
+    Ok(cores)
 }

@@ -4,7 +4,7 @@ ghost use Rattle.std.specs.Prelude.{◌≡◌};
 use crate::code::Code;
 use crate::effects::{Effect, cost};
 use rv_decode::decode;
-use slack_base::{Ask, AskList, CoreEnd, Counts, Id, OutOfMemory, Trap};
+use slack_base::{Ask, AskList, Config, CoreEnd, Counts, Id, OutOfMemory, Trap};
 use std::marker::Model;
 
 /// Where counts stop: 2^62, so that no sum overflows.
@@ -30,11 +30,68 @@ impl Model for TimedCore {
 }
 
 impl TimedCore {
-    ghost use Rattle.std.specs.Prelude.{◌≡◌, ◌<◌, ◌≤◌, ◌++◌, OnOk};
-    ghost use Rattle.lockstep_model.specs.Ticks.{tick, fetched, decoded, performed, called, completed, trapped, with_register};
+    ghost use Rattle.std.specs.Prelude.{◌≡◌, ◌<◌, ◌≤◌, ◌++◌, OnOk, not};
+    ghost use Rattle.lockstep_model.specs.Ticks.{tick, fetched, decoded, performed, called, completed, trapped, with_register, is_running};
     ghost use Rattle.rv_decode.specs.Decoding.{instr_of};
     ghost use Rattle.lockstep_model.specs.Code.{word_at};
     ghost use Rattle.lockstep_model.specs.Effects.{NamesRegister};
+    ghost use Rattle.lockstep_model.specs.Machine.{first_core};
+    ghost use Rattle.slack_base.specs.Numbers.{numbers_of};
+
+    /// A core before the first cycle.
+    pub fn new(number: u32, config: &Config, entry: u32) -> TimedCore
+        requires { number < config.now.cores }
+        ensures { result ≡ first_core (numbers_of config.now) entry number }
+    {
+        let end = u64::from(config.base) + u64::from(config.memory);
+        let mut registers = [0; 32];
+        registers[10] = number;
+        registers[2] = ((end - 4096 * u64::from(number)) % (1 << 32)) as u32;
+        TimedCore {
+            number,
+            pc: entry,
+            registers,
+            busy: 0,
+            ended: CoreEnd::Running,
+            counts: Counts {
+                retired: 0,
+                accesses: 0,
+                misses: 0,
+                retries: 0,
+                waits: 0,
+                snoops: 0,
+                writebacks: 0,
+            },
+        }
+    }
+
+    /// The core's number.
+    pub fn number(&self) -> u32
+        ensures { result ≡ self.now.number }
+    {
+        self.number
+    }
+
+    /// Whether the core is running, or how it ended.
+    pub fn end(&self) -> CoreEnd
+        ensures { result ≡ self.now.ended }
+    {
+        self.ended
+    }
+
+    /// Whether the core has ended.
+    pub fn has_ended(&self) -> bool
+        ensures { result ≡ not (is_running self.now.ended) }
+    {
+        self.ended != CoreEnd::Running
+    }
+
+    /// What is counted of the core.
+    pub fn counts(&self) -> Counts
+        ensures { result ≡ self.now.counts }
+    {
+        self.counts
+    }
 
     /// One tick at a cycle. The asks that it sends are appended.
     #[tactic(auto, unfolding(crate::specs::Ticks::tick))]

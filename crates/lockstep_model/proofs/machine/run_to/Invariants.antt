@@ -1,0 +1,18 @@
+use Rattle.std.proofs.Common.{◌≡◌, ◌-◌, ◌≤◌, length}
+use Rattle.lockstep_model.specs.Cycle.{lockstep}
+use Rattle.lockstep_model.specs.Machine.{rules_of}
+use Rattle.lockstep_model.specs.Views.{state_of}
+use Rattle.lockstep_model.proofs.machine.run_to.Given as goal
+
+-- the machine is so many cycles on
+abbrev pub invariant-loop-machine : goal.invariant-loop-machine
+invariant-loop-machine l =
+    record {
+      begun : l.fn.machine.clock ≤ l.machine.clock;
+      order : l.machine.clock ≤ l.clock;
+      state : state_of l.machine ≡ lockstep (rules_of l.target.code) (state_of l.fn.machine) (l.machine.clock - l.fn.machine.clock);
+      chans : length l.machine.chans ≡ 1;
+    }
+
+abbrev pub decreases-loop-machine : goal.decreases-loop-machine
+decreases-loop-machine l = l.clock - l.machine.clock
