@@ -1,5 +1,5 @@
 -- An address is aligned where its part below the word is.
-use Rattle.std.proofs.Common.{◌≡◌, ℕ, ◌%◌, eqb, true, arith, refl, ap, sym, eq-eqb}
+use Rattle.std.proofs.Common.{◌≡◌, ℕ, ◌%◌, eqb, true, arith, ap, eq-eqb}
 
 pub whole : (a : ℕ) → eqb (a % 1) 0 ≡ true
 whole a = eq-eqb (a % 1) 0 (omega arith)
