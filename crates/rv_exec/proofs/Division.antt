@@ -1,5 +1,5 @@
 -- The quotient and the remainder make the dividend.
-use Rattle.std.proofs.Common.{◌≡◌, ℕ, zero, suc, ◌+◌, ◌-◌, ◌*◌, ◌/◌, ◌%◌, ◌^◌, ◌<◌, ◌≤◌, cond, ℤ, pos, negsuc, neg_ℤ, ◌+ℤ◌, ◌*ℤ◌, w32, to_z, of_z, SFits, arith, refl, sym, ap, ap₂, ◌∙◌, ne_eqb, le_refl, lt_of_le_of_lt, div-le_self, le_trans}
+use Rattle.std.proofs.Common.{◌≡◌, ℕ, zero, suc, ◌+◌, ◌-◌, ◌*◌, ◌^◌, ◌<◌, ◌≤◌, ℤ, pos, negsuc, neg_ℤ, ◌+ℤ◌, ◌*ℤ◌, w32, SFits, arith, refl, sym, ap, ap₂, ◌∙◌, ne_eqb, lt_of_le_of_lt, div-le_self, le_trans}
 use Rattle.std.specs.Prelude.{unsigned_abs, int_div, int_rem}
 use Rattle.std.proofs.lemmas.Int.{ints, to_z-of_z, of_z-to_z, quot-rem, rem_below}
 use Rattle.std.proofs.lemmas.Nat.{div_below, div-add-mod', mod_below}

@@ -1,3 +1,4 @@
 pub mod Readings
 pub mod Parts
 pub mod Division
+pub mod Aligned

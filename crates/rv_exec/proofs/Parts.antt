@@ -1,11 +1,11 @@
 -- Shifts and masks against the bytes of a word.
-use Rattle.std.proofs.Common.{◌≡◌, ℕ, zero, suc, ◌+◌, ◌-◌, ◌*◌, ◌/◌, ◌%◌, ◌^◌, ◌<◌, ◌≤◌, ℤ, pos, negsuc, ◌+ℤ◌, ◌-ℤ◌, bit_and, bit_or, cond, nat_lt, w8, w32, to_z, of_z, arith, refl, sym, ap, ap₂, add-zero, mul-le-mul_right, mod-eq_of_lt, ◌∙◌, mul-add, add-mul}
+use Rattle.std.proofs.Common.{◌≡◌, ℕ, zero, suc, ◌+◌, ◌-◌, ◌*◌, ◌/◌, ◌%◌, ◌^◌, ◌<◌, ◌≤◌, pos, ◌+ℤ◌, ◌-ℤ◌, bit_and, bit_or, cond, nat_lt, w8, w32, to_z, of_z, arith, sym, ap, ap₂, add-zero, mul-le-mul_right, mod-eq_of_lt, ◌∙◌, add-mul}
 use Rattle.std.proofs.lemmas.Nat.{and_mask, and-not, and_block, or_block, or_shifted, or_disjoint, shr_split, pow_pos, mod_below, and_comm, and_le_l, and_le_r}
 use Rattle.std.specs.Int.{w16}
 use Rattle.std.proofs.lemmas.Int.{ints, to_z-of_z}
 use Rattle.std.proofs.lemmas.Bool.Decides.{nat_tests}
 use Rattle.rv_exec.proofs.Readings.{word_of_is}
-use Rattle.rv_exec.specs.Access.{byte_of, bytes_of, number_of, part_of, word_with, sign_extension}
+use Rattle.rv_exec.specs.Access.{part_of, word_with, sign_extension}
 
 -- ---- loads
 

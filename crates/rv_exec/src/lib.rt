@@ -4,6 +4,7 @@
 //! two's complement. The rules are those of the RISC-V Unprivileged ISA (20191213), chapters 2, 7 and 8.
 #![tactic(auto)]
 
+pub mod alignment;
 pub mod atomics;
 pub mod branches;
 mod divisions;
@@ -15,6 +16,7 @@ pub mod stores;
 pub mod targets;
 pub mod words;
 
+pub use alignment::{is_aligned_load, is_aligned_store};
 pub use atomics::amo_result;
 pub use branches::branch_taken;
 pub use loads::load_part;
@@ -22,3 +24,6 @@ pub use operations::alu;
 pub use stores::store_part;
 pub use targets::target;
 pub use words::word;
+
+#[cfg(test)]
+mod tests;

@@ -3,21 +3,21 @@ ghost use Rattle.std.specs.Prelude.{◌≡◌, pos, ◌*ℤ◌};
 ghost use Rattle.rv_exec.specs.Words.{signed_of};
 ghost use Rattle.rv_exec.specs.Alu.{high_of};
 
-/// Signed by signed.
+/// The high word of the product of the signed readings.
 pub fn high_product(a: u32, b: u32) -> u32
     ensures { result ≡ high_of (signed_of a *ℤ signed_of b) }
 {
     high_word(i64::from(a.cast_signed()) * i64::from(b.cast_signed()))
 }
 
-/// Signed by unsigned.
+/// The high word of the product of the signed reading of `a` by the word `b`.
 pub fn high_product_mixed(a: u32, b: u32) -> u32
     ensures { result ≡ high_of (signed_of a *ℤ pos b) }
 {
     high_word(i64::from(a.cast_signed()) * i64::from(b))
 }
 
-/// Unsigned by unsigned.
+/// The high word of the product of the words.
 pub fn high_product_unsigned(a: u32, b: u32) -> u32
     ensures { result ≡ high_of (pos a *ℤ pos b) }
 {

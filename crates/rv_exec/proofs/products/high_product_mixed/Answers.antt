@@ -1,4 +1,4 @@
-use Rattle.std.proofs.Common.{SFits, w32, w64, rules, arith, ◌∙◌, ◌*ℤ◌, le_trans}
+use Rattle.std.proofs.Common.{SFits, w32, w64, rules, ◌∙◌, ◌*ℤ◌}
 use Rattle.std.proofs.lemmas.Int.{to_z-of_z}
 use Rattle.rv_exec.proofs.Readings.{signed_of-cast, product-fits, near-signed, near-unsigned}
 use Rattle.rv_exec.proofs.products.high_product_mixed.Goals as goal
