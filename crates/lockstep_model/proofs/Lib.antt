@@ -2,3 +2,5 @@ pub mod InPlace
 pub mod Bare
 pub mod Lockstep
 pub mod AllEnded
+pub mod Segments
+pub mod Running

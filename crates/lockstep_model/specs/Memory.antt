@@ -14,4 +14,4 @@ byte_at (s ∷ segments) address = if is_in s address then slice_index s.bytes (
 
 -- the bytes of so many addresses from base on
 unfoldable pub bytes_from : List Segment → ℕ → ℕ → List ℕ
-bytes_from segments base size = map (byte_at segments) (range_with_len base size)
+bytes_from segments base size = map (λ k. byte_at segments (base + k)) (range_with_len 0 size)

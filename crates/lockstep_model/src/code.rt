@@ -1,7 +1,10 @@
 //! The instruction memory: the image as it was loaded, which fetches read and nothing writes.
 ghost use Rattle.std.specs.Prelude.{◌≡◌};
 
+use crate::loading::loaded_bytes;
 use byteorder::{ByteOrder, LittleEndian};
+use slack_base::{Config, Image, OutOfMemory};
+use std::alloc::Global;
 use std::marker::Model;
 
 /// The bytes of memory as they were loaded.
@@ -23,8 +26,22 @@ impl Model for Code {
 }
 
 impl Code {
-    ghost use Rattle.std.specs.Prelude.{◌≡◌};
+    ghost use Rattle.std.specs.Prelude.{◌≡◌, IfOk};
+    ghost use Rattle.slack_base.specs.Images.{Fits};
+    ghost use Rattle.slack_base.specs.Numbers.{numbers_of};
     ghost use Rattle.lockstep_model.specs.Code.{word_at};
+    ghost use Rattle.lockstep_model.specs.Machine.{code_of};
+
+    /// The instruction memory of an image.
+    pub fn of(alloc: Global, image: &Image, config: &Config) -> Result<Code, OutOfMemory>
+        requires { Fits config.now.base config.now.memory image.now }
+        ensures { IfOk result (λ code. code ≡ code_of image.now (numbers_of config.now)) }
+    {
+        Ok(Code {
+            base: config.base,
+            bytes: loaded_bytes(alloc, image, config.base, config.memory)?,
+        })
+    }
 
     /// The little-endian word at an address: none outside memory, and none off a multiple of 4.
     #[tactic(auto, unfolding(crate::specs::Code::word_at))]

@@ -4,5 +4,7 @@
 pub mod channels;
 pub mod code;
 pub mod effects;
+pub mod loading;
 pub mod machine;
+pub mod runs;
 pub mod timed_cores;

@@ -35,6 +35,18 @@ pub struct RvTarget {
     pub code: Code,
 }
 
+impl RvTarget {
+    /// The target of a configuration and an image.
+    pub fn make(alloc: Global, config: Config, image: &Image) -> Result<RvTarget, OutOfMemory>
+        requires { Fits config.base config.memory image.now }
+        ensures config { IfOk result (λ target. target.config ≡ config) }
+        ensures code { IfOk result (λ target. target.code ≡ code_of image.now (numbers_of config)) }
+    {
+        let code = Code::of(alloc, image, &config)?;
+        Ok(RvTarget { config, code })
+    }
+}
+
 /// One tick of each core, in core order. The asks are appended.
 fn tick_all(
     code: &Code,
