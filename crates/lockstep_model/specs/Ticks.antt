@@ -1,5 +1,5 @@
 -- A tick of a core.
-use Rattle.std.specs.Prelude.{ℕ, ◌+◌, ◌-◌, ◌%◌, ◌^◌, ◌==◌, Bool, true, false, List, [], ◌∷◌, Option, Some, None, min, nat_lt, slice_index, slice_set, if◌then◌else◌}
+use Rattle.std.specs.Prelude.{ℕ, ◌+◌, ◌-◌, ◌%◌, ◌^◌, ◌==◌, ◌≤◌, Bool, true, false, List, [], ◌∷◌, Option, Some, None, min, nat_lt, slice_index, slice_set, if◌then◌else◌}
 use Rattle.slack_base.specs.declared.messages.Ask.{Ask}
 use Rattle.slack_base.specs.declared.messages.Ask.TheVariants.{Put}
 use Rattle.slack_base.specs.declared.messages.Post.{Post}
@@ -24,6 +24,12 @@ pub record Inner : Type 0 where
   pub busy : ℕ
   pub ended : CoreEnd
   pub counts : Counts
+
+-- the core has ended by this clock, if it has ended
+abbrev pub IsBy : ℕ → CoreEnd → Type 0
+IsBy clock Running = Unit {0}
+IsBy clock (Exit at code) = at ≤ clock
+IsBy clock (Trapped at trap) = at ≤ clock
 
 -- where counts stop
 abbrev pub top : ℕ

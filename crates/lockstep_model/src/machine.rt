@@ -54,6 +54,7 @@ fn tick_all(
     cycle: u64,
     asks: &mut AskList,
 ) -> Result<(), OutOfMemory>
+    requires { cycle ≤ 2 ^ 62 }
     ensures cores { OnOk result (cores.new ≡ map (λ core. (tick code.now core cycle).0) cores.old) }
     ensures asks { OnOk result (asks.new ≡ asks.old ++ flat_map (λ core. (tick code.now core cycle).1) cores.old) }
 {

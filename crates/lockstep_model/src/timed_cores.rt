@@ -22,16 +22,19 @@ pub struct TimedCore {
 }
 
 impl Model for TimedCore {
-    ghost use Rattle.lockstep_model.specs.Ticks.{Inner};
+    ghost use Rattle.std.specs.Prelude.{◌^◌};
+    ghost use Rattle.lockstep_model.specs.Ticks.{Inner, IsBy};
 
     ghost Value = { Inner };
 
     ghost view = { λ c. record { number = c.number; pc = c.pc; registers = c.registers; busy = c.busy; ended = c.ended; counts = c.counts } };
+
+    ghost invariant = { λ c. IsBy (2 ^ 62) c.ended };
 }
 
 impl TimedCore {
-    ghost use Rattle.std.specs.Prelude.{◌≡◌, ◌<◌, ◌≤◌, ◌++◌, OnOk, not};
-    ghost use Rattle.lockstep_model.specs.Ticks.{tick, fetched, decoded, performed, called, completed, trapped, with_register, is_running};
+    ghost use Rattle.std.specs.Prelude.{◌≡◌, ◌<◌, ◌≤◌, ◌^◌, ◌++◌, OnOk, not};
+    ghost use Rattle.lockstep_model.specs.Ticks.{tick, fetched, decoded, performed, called, completed, trapped, with_register, is_running, IsBy};
     ghost use Rattle.rv_decode.specs.Decoding.{instr_of};
     ghost use Rattle.lockstep_model.specs.Code.{word_at};
     ghost use Rattle.lockstep_model.specs.Effects.{NamesRegister};
@@ -74,7 +77,8 @@ impl TimedCore {
 
     /// Whether the core is running, or how it ended.
     pub fn end(&self) -> CoreEnd
-        ensures { result ≡ self.now.ended }
+        ensures end { result ≡ self.now.ended }
+        ensures bound { IsBy (2 ^ 62) result }
     {
         self.ended
     }
@@ -96,6 +100,7 @@ impl TimedCore {
     /// One tick at a cycle. The asks that it sends are appended.
     #[tactic(auto, unfolding(crate::specs::Ticks::tick))]
     pub fn tick(&mut self, code: &Code, cycle: u64, out: &mut AskList) -> Result<(), OutOfMemory>
+        requires { cycle ≤ 2 ^ 62 }
         ensures core { OnOk result (self.new ≡ (tick code.now self.old cycle).0) }
         ensures asks { OnOk result (out.new ≡ out.old ++ (tick code.now self.old cycle).1) }
     {
@@ -112,6 +117,7 @@ impl TimedCore {
     /// Fetches the word at pc and executes it.
     #[tactic(auto, unfolding(crate::specs::Ticks::fetched))]
     fn fetch(&mut self, code: &Code, cycle: u64, out: &mut AskList) -> Result<(), OutOfMemory>
+        requires { cycle ≤ 2 ^ 62 }
         ensures core { OnOk result (self.new ≡ (fetched (word_at code.now self.old.pc) self.old cycle).0) }
         ensures asks { OnOk result (out.new ≡ out.old ++ (fetched (word_at code.now self.old.pc) self.old cycle).1) }
     {
@@ -125,6 +131,7 @@ impl TimedCore {
     /// Executes the instruction that the word stands for.
     #[tactic(auto, unfolding(crate::specs::Ticks::decoded))]
     fn execute(&mut self, bits: u32, cycle: u64, out: &mut AskList) -> Result<(), OutOfMemory>
+        requires { cycle ≤ 2 ^ 62 }
         ensures core { OnOk result (self.new ≡ (decoded (instr_of bits) bits self.old cycle).0) }
         ensures asks { OnOk result (out.new ≡ out.old ++ (decoded (instr_of bits) bits self.old cycle).1) }
     {
@@ -145,6 +152,7 @@ impl TimedCore {
         cost: u32,
         out: &mut AskList,
     ) -> Result<(), OutOfMemory>
+        requires top { cycle ≤ 2 ^ 62 }
         requires register { NamesRegister effect }
         requires some { 1 ≤ cost }
         ensures core { OnOk result (self.new ≡ (performed effect self.old cycle cost).0) }
@@ -171,6 +179,7 @@ impl TimedCore {
     /// Calls the service that x17 names.
     #[tactic(auto, unfolding(crate::specs::Ticks::called))]
     fn call(&mut self, cycle: u64, cost: u32, out: &mut AskList) -> Result<(), OutOfMemory>
+        requires top { cycle ≤ 2 ^ 62 }
         requires some { 1 ≤ cost }
         ensures core { OnOk result (self.new ≡ (called self.old cycle cost).0) }
         ensures asks { OnOk result (out.new ≡ out.old ++ (called self.old cycle cost).1) }
@@ -224,6 +233,7 @@ impl TimedCore {
 
     /// Ends the core by a trap.
     fn trap(&mut self, cycle: u64, trap: Trap)
+        requires { cycle ≤ 2 ^ 62 }
         ensures { self.new ≡ trapped self.old cycle trap }
     {
         self.ended = CoreEnd::Trapped { at: cycle, trap };

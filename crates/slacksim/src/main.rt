@@ -1,0 +1,7 @@
+//! SlackSim: a simulator of small multicore RV32IMA computers.
+#![tactic(auto)]
+
+mod lines;
+mod texts;
+
+fn main() {}
