@@ -136,7 +136,8 @@ pub fn stopped(target: &RvTarget, machine: &Machine) -> bool
     all_have_ended(machine.cores.as_slice())
 }
 
-fn all_have_ended(cores: &[TimedCore]) -> bool
+/// Whether all of these cores have ended.
+pub fn all_have_ended(cores: &[TimedCore]) -> bool
     ensures { result ≡ list_all (λ core. not (is_running core.ended)) cores.now }
 {
     cores.iter().all(|core| core.has_ended())

@@ -2,6 +2,7 @@
 #![tactic(auto)]
 
 mod lines;
+mod reports;
 mod texts;
 
 fn main() {}
