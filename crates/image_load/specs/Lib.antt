@@ -1,0 +1,5 @@
+pub mod Checks
+pub mod Fields
+pub mod Flat
+pub mod Layouts
+pub mod Reading

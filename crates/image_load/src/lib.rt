@@ -1,0 +1,11 @@
+//! Reads the image of a program: the flat format SLK1, and executables of the format ELF32.
+#![tactic(auto)]
+
+mod checks;
+mod fields;
+mod flat;
+mod layouts;
+mod loads;
+pub mod reading;
+
+pub use reading::{ImageError, image_fault, read_image};

@@ -1,0 +1,68 @@
+//! The pieces of memory that a file loads: as many as an image may have.
+ghost use Rattle.std.specs.Prelude.{◌≡◌, ◌<◌, ◌↔◌, [], ◌∷◌, ◌++◌, length, IsTrue};
+
+use crate::layouts::Load;
+use std::marker::Model;
+
+/// How many pieces an image has at most.
+pub const MOST_LOADS: usize = 64;
+
+/// The pieces, in the order of their headers. They take no memory of the heap.
+#[derive(Debug, Drop)]
+pub struct Loads {
+    items: [Load; MOST_LOADS],
+    count: usize,
+}
+
+impl Model for Loads {
+    ghost use Rattle.std.specs.Prelude.{◌≡◌, List, ◌≤◌, take, length};
+    ghost use Rattle.image_load.specs.declared.layouts.Load.{Load};
+
+    ghost Value = { List Load };
+
+    ghost view = { λ l. take l.count l.items };
+
+    ghost invariant = { λ l. (l.count ≤ 64) × (length l.items ≡ 64) };
+}
+
+impl Loads {
+    /// No piece.
+    pub fn new() -> Loads
+        ensures { result ≡ [] }
+    {
+        let none = Load {
+            index: 0,
+            offset: 0,
+            address: 0,
+            file_size: 0,
+            memory_size: 0,
+        };
+        Loads {
+            items: [none; MOST_LOADS],
+            count: 0,
+        }
+    }
+
+    /// Whether there are as many pieces as an image may have.
+    pub fn is_full(&self) -> bool
+        ensures { IsTrue result ↔ (length self.now ≡ 64) }
+    {
+        self.count == MOST_LOADS
+    }
+
+    /// The pieces.
+    pub fn as_slice(&self) -> &[Load]
+        ensures { result.now ≡ self.now }
+    {
+        &self.items[..self.count]
+    }
+
+    /// Puts a piece behind the others.
+    pub fn push(&mut self, load: Load)
+        requires { length self.old < 64 }
+        ensures { self.new ≡ self.old ++ load ∷ [] }
+    {
+        self.items[self.count] = load;
+        self.count += 1;
+    }
+}
