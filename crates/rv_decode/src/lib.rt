@@ -2,11 +2,16 @@
 //! the RISC-V Unprivileged ISA (20191213, chapter 24).
 #![tactic(auto)]
 
+mod codes;
 mod decoding;
+mod encoding;
 mod fields;
+mod formats;
+pub mod laws;
 mod operations;
 
 pub use decoding::decode;
+pub use encoding::encode;
 pub use slack_base::{
     AmoOp, BranchOp, ByteList, ImmOp, Instr, LoadOp, OutOfMemory, RegOp, ShiftOp, StoreOp,
 };
