@@ -134,7 +134,7 @@ imm_row word op f3 =
 shift_row : (word : ℕ) (op : ShiftOp) → f3_of word ≡ shift_f3 op → f7_of word ≡ shift_f7 op → shift_of word ≡ Some (Shift op (rd_of word) (rs1_of word) (rs2_of word))
 shift_row word op f3 f7 =
     ap (option_map (λ o. Shift o (rd_of word) (rs1_of word) (rs2_of word)))
-      (ap (λ n. shift_op_of n (f3_of word)) f7 ∙ ap (shift_op_of (shift_f7 op)) f3 ∙ shift_again op)
+    (ap (λ n. shift_op_of n (f3_of word)) f7 ∙ ap (shift_op_of (shift_f7 op)) f3 ∙ shift_again op)
 
 -- a shift is no other operation with an immediate
 shift_alone : (word : ℕ) (op : ShiftOp) → f3_of word ≡ shift_f3 op → imm_of word ≡ None
@@ -144,12 +144,12 @@ shift_alone word op f3 =
 reg_row : (word : ℕ) (op : RegOp) → f3_of word ≡ reg_f3 op → f7_of word ≡ reg_f7 op → reg_of word ≡ Some (Reg op (rd_of word) (rs1_of word) (rs2_of word))
 reg_row word op f3 f7 =
     ap (option_map (λ o. Reg o (rd_of word) (rs1_of word) (rs2_of word)))
-      (ap (λ n. reg_op_of n (f3_of word)) f7 ∙ ap (reg_op_of (reg_f7 op)) f3 ∙ reg_again op)
+    (ap (λ n. reg_op_of n (f3_of word)) f7 ∙ ap (reg_op_of (reg_f7 op)) f3 ∙ reg_again op)
 
 amo_row : (word : ℕ) (op : AmoOp) → funct5_of word ≡ amo_funct5 op → amo_of word ≡ Some (Amo op (rd_of word) (rs1_of word) (rs2_of word) (eqb (aq_of word) 1) (eqb (rl_of word) 1))
 amo_row word op funct5 =
     ap (option_map (λ o. Amo o (rd_of word) (rs1_of word) (rs2_of word) (eqb (aq_of word) 1) (eqb (rl_of word) 1)))
-      (ap amo_op_of funct5 ∙ amo_again op)
+    (ap amo_op_of funct5 ∙ amo_again op)
 
 guarded : (b : Bool) (i : Instr) → b ≡ true → cond b (Some i) None ≡ Some i
 guarded b i t = cond-true b (Some i) None t

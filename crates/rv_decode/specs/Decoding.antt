@@ -101,7 +101,7 @@ sc_of word = Some (Sc (rd_of word) (rs1_of word) (rs2_of word) (aq_of word == 1)
 abbrev pub amo_of : ℕ → Option Instr
 amo_of word =
     option_map (λ op. Amo op (rd_of word) (rs1_of word) (rs2_of word) (aq_of word == 1) (rl_of word == 1))
-      (amo_op_of (funct5_of word))
+    (amo_op_of (funct5_of word))
 
 abbrev pub atomic_by : ℕ → ℕ → Option Instr
 atomic_by funct5 word = if funct5 == 2 then lr_of word else (if funct5 == 3 then sc_of word else amo_of word)

@@ -97,9 +97,23 @@ pub(crate) fn reg_f7(op: RegOp) -> u32
     ensures short { result < 128 }
 {
     match op {
-        RegOp::Add | RegOp::Sll | RegOp::Slt | RegOp::Sltu | RegOp::Xor | RegOp::Srl | RegOp::Or | RegOp::And => 0b0000000,
+        RegOp::Add
+        | RegOp::Sll
+        | RegOp::Slt
+        | RegOp::Sltu
+        | RegOp::Xor
+        | RegOp::Srl
+        | RegOp::Or
+        | RegOp::And => 0b0000000,
         RegOp::Sub | RegOp::Sra => 0b0100000,
-        RegOp::Mul | RegOp::Mulh | RegOp::Mulhsu | RegOp::Mulhu | RegOp::Div | RegOp::Divu | RegOp::Rem | RegOp::Remu => 0b0000001,
+        RegOp::Mul
+        | RegOp::Mulh
+        | RegOp::Mulhsu
+        | RegOp::Mulhu
+        | RegOp::Div
+        | RegOp::Divu
+        | RegOp::Rem
+        | RegOp::Remu => 0b0000001,
     }
 }
 

@@ -5,8 +5,7 @@ ghost use Rattle.rv_decode.specs.Decoding.{jalr_of, branch_of, load_of, store_of
 ghost use Rattle.rv_decode.specs.Encodes.{Encodes};
 ghost use Rattle.rv_decode.specs.Ranges.{IsInRange};
 
-use crate::fields;
-use crate::operations;
+use crate::{fields, operations};
 use slack_base::Instr;
 
 /// The instruction that a word stands for, with its fields in their ranges: none exactly where no row of the table

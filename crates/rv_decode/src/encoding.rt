@@ -56,7 +56,14 @@ fn word(instr: Instr) -> u32
             r_type(0b0010011, codes::shift_f3(op), f7, rd, rs1, amount)
         }
         Instr::Reg { op, rd, rs1, rs2 } => {
-            r_type(0b0110011, codes::reg_f3(op), codes::reg_f7(op), rd, rs1, rs2)
+            r_type(
+                0b0110011,
+                codes::reg_f3(op),
+                codes::reg_f7(op),
+                rd,
+                rs1,
+                rs2,
+            )
         }
         Instr::Lr { rd, rs1, aq, rl } => atomic(0b00010, aq, rl, rd, rs1, 0),
         Instr::Sc {

@@ -8,10 +8,13 @@ mod encoding;
 mod fields;
 mod formats;
 pub mod laws;
+mod mnemonics;
 mod operations;
+mod texts;
 
 pub use decoding::decode;
 pub use encoding::encode;
 pub use slack_base::{
     AmoOp, BranchOp, ByteList, ImmOp, Instr, LoadOp, OutOfMemory, RegOp, ShiftOp, StoreOp,
 };
+pub use texts::text_of;
