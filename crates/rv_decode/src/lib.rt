@@ -10,6 +10,8 @@ mod formats;
 pub mod laws;
 mod mnemonics;
 mod operations;
+#[cfg(test)]
+mod tests;
 mod texts;
 
 pub use decoding::decode;

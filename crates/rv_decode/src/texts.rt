@@ -24,15 +24,30 @@ fn text(alloc: Global, instr: Instr) -> Result<String, AllocError>
         Instr::Auipc { rd, upper } => format!(in alloc; "auipc x{rd}, {upper}"),
         Instr::Jal { rd, offset } => format!(in alloc; "jal x{rd}, {offset}"),
         Instr::Jalr { rd, rs1, offset } => format!(in alloc; "jalr x{rd}, {offset}(x{rs1})"),
-        Instr::Branch { op, rs1, rs2, offset } => {
+        Instr::Branch {
+            op,
+            rs1,
+            rs2,
+            offset,
+        } => {
             let name = branch_name(op);
             format!(in alloc; "{name} x{rs1}, x{rs2}, {offset}")
         }
-        Instr::Load { op, rd, rs1, offset } => {
+        Instr::Load {
+            op,
+            rd,
+            rs1,
+            offset,
+        } => {
             let name = load_name(op);
             format!(in alloc; "{name} x{rd}, {offset}(x{rs1})")
         }
-        Instr::Store { op, rs1, rs2, offset } => {
+        Instr::Store {
+            op,
+            rs1,
+            rs2,
+            offset,
+        } => {
             let name = store_name(op);
             format!(in alloc; "{name} x{rs2}, {offset}(x{rs1})")
         }
@@ -40,7 +55,12 @@ fn text(alloc: Global, instr: Instr) -> Result<String, AllocError>
             let name = imm_name(op);
             format!(in alloc; "{name} x{rd}, x{rs1}, {value}")
         }
-        Instr::Shift { op, rd, rs1, amount } => {
+        Instr::Shift {
+            op,
+            rd,
+            rs1,
+            amount,
+        } => {
             let name = shift_name(op);
             format!(in alloc; "{name} x{rd}, x{rs1}, {amount}")
         }
@@ -52,11 +72,24 @@ fn text(alloc: Global, instr: Instr) -> Result<String, AllocError>
             let ending = ending(aq, rl);
             format!(in alloc; "lr.w{ending} x{rd}, (x{rs1})")
         }
-        Instr::Sc { rd, rs1, rs2, aq, rl } => {
+        Instr::Sc {
+            rd,
+            rs1,
+            rs2,
+            aq,
+            rl,
+        } => {
             let ending = ending(aq, rl);
             format!(in alloc; "sc.w{ending} x{rd}, x{rs2}, (x{rs1})")
         }
-        Instr::Amo { op, rd, rs1, rs2, aq, rl } => {
+        Instr::Amo {
+            op,
+            rd,
+            rs1,
+            rs2,
+            aq,
+            rl,
+        } => {
             let name = amo_name(op);
             let ending = ending(aq, rl);
             format!(in alloc; "{name}{ending} x{rd}, x{rs2}, (x{rs1})")
