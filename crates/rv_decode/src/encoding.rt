@@ -5,8 +5,8 @@ ghost use Rattle.rv_decode.specs.Encodes.{Encodes};
 ghost use Rattle.rv_decode.specs.Operations.{branch_f3, load_f3, store_f3, imm_f3, shift_f3, shift_f7, reg_f3, reg_f7, amo_funct5};
 ghost use Rattle.rv_decode.specs.Ranges.{IsInRange};
 
-use crate::codes;
 use crate::formats::{atomic, b_type, i_type, j_type, r_type, s_type, u_type};
+use crate::{codes, opcodes};
 use slack_base::Instr;
 
 /// The one word that stands for an instruction whose fields are in their ranges. It takes no memory.
@@ -23,29 +23,35 @@ fn word(instr: Instr) -> u32
     ensures { Encodes result instr }
 {
     match instr {
-        Instr::Lui { rd, upper } => u_type(0b0110111, rd, upper),
-        Instr::Auipc { rd, upper } => u_type(0b0010111, rd, upper),
-        Instr::Jal { rd, offset } => j_type(0b1101111, rd, offset),
-        Instr::Jalr { rd, rs1, offset } => i_type(0b1100111, 0b000, rd, rs1, offset),
+        Instr::Lui { rd, upper } => u_type(opcodes::LUI, rd, upper),
+        Instr::Auipc { rd, upper } => u_type(opcodes::AUIPC, rd, upper),
+        Instr::Jal { rd, offset } => j_type(opcodes::JAL, rd, offset),
+        Instr::Jalr { rd, rs1, offset } => i_type(opcodes::JALR, 0b000, rd, rs1, offset),
         Instr::Branch {
             op,
             rs1,
             rs2,
             offset,
-        } => b_type(0b1100011, codes::branch_f3(op), rs1, rs2, offset),
+        } => b_type(opcodes::BRANCH, codes::branch_f3(op), rs1, rs2, offset),
         Instr::Load {
             op,
             rd,
             rs1,
             offset,
-        } => i_type(0b0000011, codes::load_f3(op), rd, rs1, offset),
+        } => i_type(opcodes::LOAD, codes::load_f3(op), rd, rs1, offset),
         Instr::Store {
             op,
             rs1,
             rs2,
             offset,
-        } => s_type(0b0100011, codes::store_f3(op), rs1, rs2, offset),
-        Instr::Imm { op, rd, rs1, value } => i_type(0b0010011, codes::imm_f3(op), rd, rs1, value),
+        } => s_type(opcodes::STORE, codes::store_f3(op), rs1, rs2, offset),
+        Instr::Imm { op, rd, rs1, value } => i_type(
+            opcodes::OP_IMM,
+            codes::imm_f3(op),
+            rd,
+            rs1,
+            value,
+        ),
         Instr::Shift {
             op,
             rd,
@@ -53,11 +59,11 @@ fn word(instr: Instr) -> u32
             amount,
         } => {
             let f7 = codes::shift_f7(op);
-            r_type(0b0010011, codes::shift_f3(op), f7, rd, rs1, amount)
+            r_type(opcodes::OP_IMM, codes::shift_f3(op), f7, rd, rs1, amount)
         }
         Instr::Reg { op, rd, rs1, rs2 } => {
             r_type(
-                0b0110011,
+                opcodes::OP,
                 codes::reg_f3(op),
                 codes::reg_f7(op),
                 rd,
@@ -82,7 +88,7 @@ fn word(instr: Instr) -> u32
             rl,
         } => atomic(codes::amo_funct5(op), aq, rl, rd, rs1, rs2),
         Instr::Fence { word } => word,
-        Instr::Ecall => 0x00000073,
-        Instr::Ebreak => 0x00100073,
+        Instr::Ecall => opcodes::ECALL,
+        Instr::Ebreak => opcodes::EBREAK,
     }
 }

@@ -3,6 +3,8 @@ ghost use Rattle.std.specs.Prelude.{◌≡◌, ◌+◌, ◌*◌, ◌^◌, ◌<�
 ghost use Rattle.rv_decode.specs.Encodes.{IsRType, IsIType, IsSType, IsBType, IsUType, IsJType, IsAtomic};
 ghost use Rattle.rv_decode.specs.Ranges.{IsRegister, IsImmediate, IsBranchOffset, IsJumpOffset};
 
+use crate::opcodes;
+
 /// A number in two's complement: its sign's bit, and the number that the bits below it stand for.
 struct SignedBits {
     sign: u32,
@@ -121,5 +123,5 @@ pub(crate) fn atomic(funct5: u32, aq: bool, rl: bool, rd: u32, rs1: u32, rs2: u3
     ensures { IsAtomic result funct5 aq rl rd rs1 rs2 }
 {
     let f7 = (funct5 << 2) + (u32::from(aq) << 1) + u32::from(rl);
-    r_type(0b0101111, 0b010, f7, rd, rs1, rs2)
+    r_type(opcodes::AMO, 0b010, f7, rd, rs1, rs2)
 }
