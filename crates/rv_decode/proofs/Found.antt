@@ -1,12 +1,12 @@
 -- What the decoder answers stands in the table.
-use Rattle.std.proofs.Common.{◌≡◌, ℕ, ◌<◌, Bool, true, false, cond, eqb, ◌&&◌, List, [], ◌∷◌, Option, Some, None, refl, sym, ap, subst, ◌∙◌, arith}
+use Rattle.std.proofs.Common.{◌≡◌, ℕ, ◌<◌, Bool, true, false, cond, eqb, ◌&&◌, List, [], ◌∷◌, Option, Some, None, refl, sym, subst, ◌∙◌, arith}
 use Rattle.std.specs.List.{find}
 use Rattle.std.specs.Option.{option_map, option_or}
 use Rattle.std.proofs.lemmas.Bool.{eqb-true, eqb-false, cond_both, and_parts}
 use Rattle.std.proofs.lemmas.Option.{none-some, same_Some}
 use Rattle.slack_base.specs.declared.instructions.Instr.{Instr}
-use Rattle.slack_base.specs.declared.instructions.Instr.TheVariants.{Lui, Auipc, Jal, Jalr, Branch, Load, Store, Imm, Shift, Reg, Lr, Sc, Amo, Fence, Ecall, Ebreak}
-use Rattle.rv_decode.specs.Fields.{opcode_of, rd_of, f3_of, rs1_of, rs2_of, f7_of, funct5_of, aq_of, rl_of, bit_of, immediate_i, immediate_s, immediate_b, immediate_j, upper_of}
+use Rattle.slack_base.specs.declared.instructions.Instr.TheVariants.{Jalr, Branch, Load, Store, Imm, Shift, Reg, Lr, Sc, Amo, Fence, Ecall, Ebreak}
+use Rattle.rv_decode.specs.Fields.{opcode_of, rd_of, f3_of, rs1_of, rs2_of, f7_of, funct5_of, aq_of, rl_of, bit_of, immediate_i, immediate_s, immediate_b}
 use Rattle.rv_decode.specs.Operations.{branch_f3, load_f3, store_f3, imm_f3, shift_f3, shift_f7, reg_f3, reg_f7, amo_funct5}
 use Rattle.rv_decode.specs.Decoding.{branch_ops, load_ops, store_ops, imm_ops, shift_ops, reg_ops, amo_ops, jalr_of, branch_of, load_of, store_of, imm_of, shift_of, reg_of, fence_of, lr_of, sc_of, amo_of, atomic_by, atomic_of, system_of, instr_by, instr_of}
 use Rattle.rv_decode.specs.Encodes.{IsAtomic, Encodes}

@@ -1,11 +1,11 @@
 -- The fields of what a word stands for are in their ranges.
-use Rattle.std.proofs.Common.{◌≡◌, ℕ, ℤ, pos, negsuc, ◌+◌, ◌*◌, ◌%◌, ◌^◌, ◌<◌, ◌+ℤ◌, ◌≤ℤ◌, subst, arith}
+use Rattle.std.proofs.Common.{◌≡◌, ℕ, ℤ, pos, negsuc, ◌+◌, ◌*◌, ◌^◌, ◌<◌, ◌+ℤ◌, subst, arith}
 use Rattle.std.proofs.lemmas.Int.{ints}
 use Rattle.slack_base.specs.declared.instructions.Instr.{Instr}
 use Rattle.slack_base.specs.declared.instructions.Instr.TheVariants.{Lui, Auipc, Jal, Jalr, Branch, Load, Store, Imm, Shift, Reg, Lr, Sc, Amo, Fence, Ecall, Ebreak}
 use Rattle.rv_decode.specs.Fields.{field, opcode_of, f3_of, immediate_i, immediate_s, immediate_b, immediate_j}
 use Rattle.rv_decode.specs.Encodes.{Encodes}
-use Rattle.rv_decode.specs.Ranges.{IsWithin, IsEven, IsImmediate, IsBranchOffset, IsJumpOffset, IsInRange}
+use Rattle.rv_decode.specs.Ranges.{IsEven, IsImmediate, IsBranchOffset, IsJumpOffset, IsInRange}
 
 i_within : (word : ℕ) → IsImmediate (immediate_i word)
 i_within word = record { low = omega (arith, ints); high = omega (arith, ints) }

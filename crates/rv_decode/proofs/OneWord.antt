@@ -1,10 +1,10 @@
 -- An instruction has at most one word.
-use Rattle.std.proofs.Common.{◌≡◌, ℕ, ℤ, ◌+◌, ◌*◌, ◌/◌, ◌%◌, ◌^◌, ◌<◌, Bool, true, false, sym, ◌∙◌, arith}
+use Rattle.std.proofs.Common.{◌≡◌, ℕ, ℤ, ◌^◌, ◌<◌, Bool, sym, ◌∙◌, arith}
 use Rattle.std.proofs.lemmas.Int.{ints}
 use Rattle.slack_base.specs.declared.instructions.Instr.{Instr}
 use Rattle.slack_base.specs.declared.instructions.Instr.TheVariants.{Lui, Auipc, Jal, Jalr, Branch, Load, Store, Imm, Shift, Reg, Lr, Sc, Amo, Fence, Ecall, Ebreak}
-use Rattle.rv_decode.specs.Fields.{field, opcode_of, rd_of, f3_of, rs1_of, rs2_of, f7_of, funct5_of, aq_of, rl_of, immediate_i, immediate_s, immediate_b, immediate_j, upper_of}
-use Rattle.rv_decode.specs.Encodes.{IsRType, IsIType, IsSType, IsBType, IsUType, IsJType, IsAtomic, Encodes}
+use Rattle.rv_decode.specs.Fields.{opcode_of, rd_of, f3_of, rs1_of, rs2_of, f7_of, funct5_of, aq_of, rl_of, immediate_i, immediate_s, immediate_b, immediate_j, upper_of}
+use Rattle.rv_decode.specs.Encodes.{IsRType, IsIType, IsSType, IsBType, IsUType, IsAtomic, Encodes}
 
 -- words with the same fields are one
 same : (v w : ℕ) → v < 2 ^ 32 → w < 2 ^ 32 → opcode_of v ≡ opcode_of w → f3_of v ≡ f3_of w → f7_of v ≡ f7_of w → rd_of v ≡ rd_of w → rs1_of v ≡ rs1_of w → rs2_of v ≡ rs2_of w → v ≡ w

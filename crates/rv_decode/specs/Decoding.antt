@@ -1,6 +1,6 @@
 -- What the decoder answers, by choices on the fields of a word. That it is what the table says is proved: no other
 -- crate need read this file.
-use Rattle.std.specs.Prelude.{ℕ, Bool, List, [], ◌∷◌, Option, Some, None, ◌==◌, ◌&&◌, if◌then◌else◌}
+use Rattle.std.specs.Prelude.{ℕ, List, [], ◌∷◌, Option, Some, None, ◌==◌, ◌&&◌, if◌then◌else◌}
 use Rattle.std.specs.List.{find}
 use Rattle.std.specs.Option.{option_map, option_or}
 use Rattle.slack_base.specs.declared.instructions.Instr.{Instr}

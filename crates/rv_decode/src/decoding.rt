@@ -52,15 +52,11 @@ fn instruction(bits: u32) -> Option<Instr>
 fn jalr(bits: u32) -> Option<Instr>
     ensures { result ≡ jalr_of bits }
 {
-    if fields::f3(bits) == 0 {
-        Some(Instr::Jalr {
-            rd: fields::rd(bits),
-            rs1: fields::rs1(bits),
-            offset: fields::immediate_i(bits),
-        })
-    } else {
-        None
-    }
+    (fields::f3(bits) == 0b000).then_some(Instr::Jalr {
+        rd: fields::rd(bits),
+        rs1: fields::rs1(bits),
+        offset: fields::immediate_i(bits),
+    })
 }
 
 fn branch(bits: u32) -> Option<Instr>
@@ -138,11 +134,7 @@ fn reg(bits: u32) -> Option<Instr>
 fn fence(bits: u32) -> Option<Instr>
     ensures { result ≡ fence_of bits }
 {
-    if fields::f3(bits) == 0 {
-        Some(Instr::Fence { word: bits })
-    } else {
-        None
-    }
+    (fields::f3(bits) == 0b000).then_some(Instr::Fence { word: bits })
 }
 
 fn system(bits: u32) -> Option<Instr>
@@ -171,16 +163,12 @@ fn atomic(bits: u32) -> Option<Instr>
 fn lr(bits: u32) -> Option<Instr>
     ensures { result ≡ lr_of bits }
 {
-    if fields::rs2(bits) == 0 {
-        Some(Instr::Lr {
-            rd: fields::rd(bits),
-            rs1: fields::rs1(bits),
-            aq: fields::aq(bits),
-            rl: fields::rl(bits),
-        })
-    } else {
-        None
-    }
+    (fields::rs2(bits) == 0).then_some(Instr::Lr {
+        rd: fields::rd(bits),
+        rs1: fields::rs1(bits),
+        aq: fields::aq(bits),
+        rl: fields::rl(bits),
+    })
 }
 
 fn sc(bits: u32) -> Instr
