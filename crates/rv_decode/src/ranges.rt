@@ -16,63 +16,35 @@ pub fn is_in_range(instr: &Instr) -> bool
         }
         Instr::Jal { rd, offset } => is_register(rd) && is_jump_offset(offset),
         Instr::Jalr { rd, rs1, offset } => are_registers(rd, rs1) && is_immediate(offset),
-        Instr::Branch {
-            op: _,
-            rs1,
-            rs2,
-            offset,
-        } => are_registers(rs1, rs2) && is_branch_offset(offset),
         Instr::Load {
-            op: _,
             rd,
             rs1,
             offset,
+            ..
         } => are_registers(rd, rs1) && is_immediate(offset),
-        Instr::Store {
-            op: _,
+        Instr::Branch {
             rs1,
             rs2,
             offset,
-        } => are_registers(rs1, rs2) && is_immediate(offset),
-        Instr::Imm {
-            op: _,
-            rd,
+            ..
+        } => are_registers(rs1, rs2) && is_branch_offset(offset),
+        Instr::Store {
             rs1,
-            value,
-        } => are_registers(rd, rs1) && is_immediate(value),
+            rs2,
+            offset,
+            ..
+        } => are_registers(rs1, rs2) && is_immediate(offset),
+        Instr::Imm { rd, rs1, value, .. } => are_registers(rd, rs1) && is_immediate(value),
         Instr::Shift {
-            op: _,
             rd,
             rs1,
             amount,
+            ..
         } => are_registers(rd, rs1) && amount < 32,
-        Instr::Reg {
-            op: _,
-            rd,
-            rs1,
-            rs2,
-        } => are_registers(rd, rs1) && is_register(rs2),
-        Instr::Lr {
-            rd,
-            rs1,
-            aq: _,
-            rl: _,
-        } => are_registers(rd, rs1),
-        Instr::Sc {
-            rd,
-            rs1,
-            rs2,
-            aq: _,
-            rl: _,
-        } => are_registers(rd, rs1) && is_register(rs2),
-        Instr::Amo {
-            op: _,
-            rd,
-            rs1,
-            rs2,
-            aq: _,
-            rl: _,
-        } => are_registers(rd, rs1) && is_register(rs2),
+        Instr::Reg { rd, rs1, rs2, .. }
+        | Instr::Sc { rd, rs1, rs2, .. }
+        | Instr::Amo { rd, rs1, rs2, .. } => are_registers(rd, rs1) && is_register(rs2),
+        Instr::Lr { rd, rs1, .. } => are_registers(rd, rs1),
         Instr::Fence { word } => is_fence(word),
         Instr::Ecall | Instr::Ebreak => true,
     }
