@@ -1,5 +1,5 @@
 -- The decoder answers each instruction that the table has.
-use Rattle.std.proofs.Common.{◌≡◌, ℕ, Bool, true, false, cond, eqb, Option, Some, None, refl, ap, ◌∙◌}
+use Rattle.std.proofs.Common.{◌≡◌, ℕ, Bool, true, false, cond, eqb, Some, None, refl, ap, ◌∙◌}
 use Rattle.std.specs.Option.{option_map, option_or}
 use Rattle.std.proofs.lemmas.Bool.{eq-eqb, cond-true}
 use Rattle.slack_base.specs.declared.instructions.Instr.{Instr}
@@ -18,10 +18,10 @@ use Rattle.slack_base.specs.declared.instructions.RegOp.{RegOp}
 use Rattle.slack_base.specs.declared.instructions.RegOp.TheVariants.{Add, Sll, Slt, Sltu, Xor, Srl, Or, And, Sub, Sra, Mul, Mulh, Mulhsu, Mulhu, Div, Divu, Rem, Remu}
 use Rattle.slack_base.specs.declared.instructions.AmoOp.{AmoOp}
 use Rattle.slack_base.specs.declared.instructions.AmoOp.TheVariants.{Amoswap, Amoadd, Amoxor, Amoand, Amoor, Amomin, Amomax, Amominu, Amomaxu}
-use Rattle.rv_decode.specs.Fields.{opcode_of, rd_of, f3_of, rs1_of, rs2_of, f7_of, funct5_of, aq_of, rl_of, bit_of, immediate_i, immediate_s, immediate_b, immediate_j, upper_of}
+use Rattle.rv_decode.specs.Fields.{opcode_of, rd_of, f3_of, rs1_of, rs2_of, f7_of, funct5_of, aq_of, rl_of, bit_of, immediate_i, immediate_s, immediate_b}
 use Rattle.rv_decode.specs.Operations.{branch_f3, load_f3, store_f3, imm_f3, shift_f3, shift_f7, reg_f3, reg_f7, amo_funct5}
-use Rattle.rv_decode.specs.Decoding.{branch_op_of, load_op_of, store_op_of, imm_op_of, shift_op_of, reg_op_of, amo_op_of, jalr_of, branch_of, load_of, store_of, imm_of, shift_of, reg_of, fence_of, lr_of, sc_of, amo_of, atomic_by, atomic_of, system_of, instr_by, instr_of}
-use Rattle.rv_decode.specs.Encodes.{IsRType, IsIType, IsSType, IsBType, IsAtomic, Encodes}
+use Rattle.rv_decode.specs.Decoding.{branch_op_of, load_op_of, store_op_of, imm_op_of, shift_op_of, reg_op_of, amo_op_of, branch_of, load_of, store_of, imm_of, shift_of, reg_of, amo_of, atomic_by, instr_by, instr_of}
+use Rattle.rv_decode.specs.Encodes.{IsAtomic, Encodes}
 
 -- an operation's codes select it
 branch_again : (op : BranchOp) → branch_op_of (branch_f3 op) ≡ Some op
@@ -134,7 +134,7 @@ imm_row word op f3 =
 shift_row : (word : ℕ) (op : ShiftOp) → f3_of word ≡ shift_f3 op → f7_of word ≡ shift_f7 op → shift_of word ≡ Some (Shift op (rd_of word) (rs1_of word) (rs2_of word))
 shift_row word op f3 f7 =
     ap (option_map (λ o. Shift o (rd_of word) (rs1_of word) (rs2_of word)))
-      (ap (λ n. shift_op_of n (f3_of word)) f7 ∙ ap (shift_op_of (shift_f7 op)) f3 ∙ shift_again op)
+    (ap (λ n. shift_op_of n (f3_of word)) f7 ∙ ap (shift_op_of (shift_f7 op)) f3 ∙ shift_again op)
 
 -- a shift is no other operation with an immediate
 shift_alone : (word : ℕ) (op : ShiftOp) → f3_of word ≡ shift_f3 op → imm_of word ≡ None
@@ -144,12 +144,12 @@ shift_alone word op f3 =
 reg_row : (word : ℕ) (op : RegOp) → f3_of word ≡ reg_f3 op → f7_of word ≡ reg_f7 op → reg_of word ≡ Some (Reg op (rd_of word) (rs1_of word) (rs2_of word))
 reg_row word op f3 f7 =
     ap (option_map (λ o. Reg o (rd_of word) (rs1_of word) (rs2_of word)))
-      (ap (λ n. reg_op_of n (f3_of word)) f7 ∙ ap (reg_op_of (reg_f7 op)) f3 ∙ reg_again op)
+    (ap (λ n. reg_op_of n (f3_of word)) f7 ∙ ap (reg_op_of (reg_f7 op)) f3 ∙ reg_again op)
 
 amo_row : (word : ℕ) (op : AmoOp) → funct5_of word ≡ amo_funct5 op → amo_of word ≡ Some (Amo op (rd_of word) (rs1_of word) (rs2_of word) (eqb (aq_of word) 1) (eqb (rl_of word) 1))
 amo_row word op funct5 =
     ap (option_map (λ o. Amo o (rd_of word) (rs1_of word) (rs2_of word) (eqb (aq_of word) 1) (eqb (rl_of word) 1)))
-      (ap amo_op_of funct5 ∙ amo_again op)
+    (ap amo_op_of funct5 ∙ amo_again op)
 
 guarded : (b : Bool) (i : Instr) → b ≡ true → cond b (Some i) None ≡ Some i
 guarded b i t = cond-true b (Some i) None t

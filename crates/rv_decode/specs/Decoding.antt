@@ -1,6 +1,6 @@
 -- What the decoder answers, by choices on the fields of a word. That it is what the table says is proved: no other
 -- crate need read this file.
-use Rattle.std.specs.Prelude.{ℕ, Bool, List, [], ◌∷◌, Option, Some, None, ◌==◌, ◌&&◌, if◌then◌else◌}
+use Rattle.std.specs.Prelude.{ℕ, List, [], ◌∷◌, Option, Some, None, ◌==◌, ◌&&◌, if◌then◌else◌}
 use Rattle.std.specs.List.{find}
 use Rattle.std.specs.Option.{option_map, option_or}
 use Rattle.slack_base.specs.declared.instructions.Instr.{Instr}
@@ -101,7 +101,7 @@ sc_of word = Some (Sc (rd_of word) (rs1_of word) (rs2_of word) (aq_of word == 1)
 abbrev pub amo_of : ℕ → Option Instr
 amo_of word =
     option_map (λ op. Amo op (rd_of word) (rs1_of word) (rs2_of word) (aq_of word == 1) (rl_of word == 1))
-      (amo_op_of (funct5_of word))
+    (amo_op_of (funct5_of word))
 
 abbrev pub atomic_by : ℕ → ℕ → Option Instr
 atomic_by funct5 word = if funct5 == 2 then lr_of word else (if funct5 == 3 then sc_of word else amo_of word)

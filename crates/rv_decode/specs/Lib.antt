@@ -3,3 +3,4 @@ pub mod Encodes
 pub mod Fields
 pub mod Operations
 pub mod Ranges
+pub mod Texts

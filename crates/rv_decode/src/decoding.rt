@@ -5,8 +5,7 @@ ghost use Rattle.rv_decode.specs.Decoding.{jalr_of, branch_of, load_of, store_of
 ghost use Rattle.rv_decode.specs.Encodes.{Encodes};
 ghost use Rattle.rv_decode.specs.Ranges.{IsInRange};
 
-use crate::fields;
-use crate::operations;
+use crate::{fields, opcodes, operations};
 use slack_base::Instr;
 
 /// The instruction that a word stands for, with its fields in their ranges: none exactly where no row of the table
@@ -27,27 +26,27 @@ fn instruction(bits: u32) -> Option<Instr>
 {
     let rd = fields::rd(bits);
     match fields::opcode(bits) {
-        0b0110111 => Some(Instr::Lui {
+        opcodes::LUI => Some(Instr::Lui {
             rd,
             upper: fields::upper(bits),
         }),
-        0b0010111 => Some(Instr::Auipc {
+        opcodes::AUIPC => Some(Instr::Auipc {
             rd,
             upper: fields::upper(bits),
         }),
-        0b1101111 => Some(Instr::Jal {
+        opcodes::JAL => Some(Instr::Jal {
             rd,
             offset: fields::immediate_j(bits),
         }),
-        0b1100111 => jalr(bits),
-        0b1100011 => branch(bits),
-        0b0000011 => load(bits),
-        0b0100011 => store(bits),
-        0b0010011 => imm(bits).or(shift(bits)),
-        0b0110011 => reg(bits),
-        0b0001111 => fence(bits),
-        0b1110011 => system(bits),
-        0b0101111 => atomic(bits),
+        opcodes::JALR => jalr(bits),
+        opcodes::BRANCH => branch(bits),
+        opcodes::LOAD => load(bits),
+        opcodes::STORE => store(bits),
+        opcodes::OP_IMM => imm(bits).or_else(|| shift(bits)),
+        opcodes::OP => reg(bits),
+        opcodes::MISC_MEM => fence(bits),
+        opcodes::SYSTEM => system(bits),
+        opcodes::AMO => atomic(bits),
         _ => None,
     }
 }
@@ -55,15 +54,11 @@ fn instruction(bits: u32) -> Option<Instr>
 fn jalr(bits: u32) -> Option<Instr>
     ensures { result ≡ jalr_of bits }
 {
-    if fields::f3(bits) == 0 {
-        Some(Instr::Jalr {
-            rd: fields::rd(bits),
-            rs1: fields::rs1(bits),
-            offset: fields::immediate_i(bits),
-        })
-    } else {
-        None
-    }
+    (fields::f3(bits) == 0b000).then_some(Instr::Jalr {
+        rd: fields::rd(bits),
+        rs1: fields::rs1(bits),
+        offset: fields::immediate_i(bits),
+    })
 }
 
 fn branch(bits: u32) -> Option<Instr>
@@ -141,19 +136,15 @@ fn reg(bits: u32) -> Option<Instr>
 fn fence(bits: u32) -> Option<Instr>
     ensures { result ≡ fence_of bits }
 {
-    if fields::f3(bits) == 0 {
-        Some(Instr::Fence { word: bits })
-    } else {
-        None
-    }
+    (fields::f3(bits) == 0b000).then_some(Instr::Fence { word: bits })
 }
 
 fn system(bits: u32) -> Option<Instr>
     ensures { result ≡ system_of bits }
 {
     match bits {
-        0x00000073 => Some(Instr::Ecall),
-        0x00100073 => Some(Instr::Ebreak),
+        opcodes::ECALL => Some(Instr::Ecall),
+        opcodes::EBREAK => Some(Instr::Ebreak),
         _ => None,
     }
 }
@@ -174,16 +165,12 @@ fn atomic(bits: u32) -> Option<Instr>
 fn lr(bits: u32) -> Option<Instr>
     ensures { result ≡ lr_of bits }
 {
-    if fields::rs2(bits) == 0 {
-        Some(Instr::Lr {
-            rd: fields::rd(bits),
-            rs1: fields::rs1(bits),
-            aq: fields::aq(bits),
-            rl: fields::rl(bits),
-        })
-    } else {
-        None
-    }
+    (fields::rs2(bits) == 0).then_some(Instr::Lr {
+        rd: fields::rd(bits),
+        rs1: fields::rs1(bits),
+        aq: fields::aq(bits),
+        rl: fields::rl(bits),
+    })
 }
 
 fn sc(bits: u32) -> Instr

@@ -106,8 +106,7 @@ pub(crate) fn immediate_s(bits: u32) -> i32
 pub(crate) fn immediate_b(bits: u32) -> i32
     ensures { result ≡ immediate_b bits }
 {
-    let below =
-        (field(bits, 7, 7) << 11) + (field(bits, 30, 25) << 5) + (field(bits, 11, 8) << 1);
+    let below = (field(bits, 7, 7) << 11) + (field(bits, 30, 25) << 5) + (field(bits, 11, 8) << 1);
     signed(below, field(bits, 31, 31) << 12)
 }
 
@@ -115,7 +114,8 @@ pub(crate) fn immediate_b(bits: u32) -> i32
 pub(crate) fn immediate_j(bits: u32) -> i32
     ensures { result ≡ immediate_j bits }
 {
-    let below =
-        (field(bits, 19, 12) << 12) + (field(bits, 20, 20) << 11) + (field(bits, 30, 21) << 1);
+    let below = (field(bits, 19, 12) << 12)
+        + (field(bits, 20, 20) << 11)
+        + (field(bits, 30, 21) << 1);
     signed(below, field(bits, 31, 31) << 20)
 }
