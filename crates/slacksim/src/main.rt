@@ -2,6 +2,7 @@
 #![tactic(auto)]
 
 mod lines;
+mod orders;
 mod reports;
 mod texts;
 
