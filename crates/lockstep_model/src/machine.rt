@@ -84,6 +84,7 @@ fn cycle_with(
     requires chans { length machine.old.chans ≡ 1 }
     ensures state { OnOk result (state_of machine.new ≡ cycle_of (rules_of target.now.code) (state_of machine.old)) }
     ensures clock { OnOk result (machine.new.clock ≡ machine.old.clock + 1) }
+    ensures cores { OnOk result (length machine.new.cores ≡ length machine.old.cores) }
     ensures chans { OnOk result (length machine.new.chans ≡ 1) }
 {
     asks.clear();
@@ -103,6 +104,7 @@ pub fn cycle(alloc: Global, target: &RvTarget, machine: &mut Machine) -> Result<
     requires clock { machine.old.clock < 2 ^ 62 }
     requires chans { length machine.old.chans ≡ 1 }
     ensures state { OnOk result (state_of machine.new ≡ cycle_of (rules_of target.now.code) (state_of machine.old)) }
+    ensures cores { OnOk result (length machine.new.cores ≡ length machine.old.cores) }
     ensures chans { OnOk result (length machine.new.chans ≡ 1) }
 {
     cycle_with(target, machine, &mut AskList::new(alloc))
@@ -120,6 +122,7 @@ pub fn run_to(
     requires chans { length machine.old.chans ≡ 1 }
     ensures state { OnOk result (state_of machine.new ≡ lockstep (rules_of target.now.code) (state_of machine.old) (clock - machine.old.clock)) }
     ensures clock { OnOk result (machine.new.clock ≡ clock) }
+    ensures cores { OnOk result (length machine.new.cores ≡ length machine.old.cores) }
     ensures chans { OnOk result (length machine.new.chans ≡ 1) }
 {
     let mut asks = AskList::new(alloc);
@@ -147,6 +150,7 @@ pub fn all_have_ended(cores: &[TimedCore]) -> bool
 pub fn start(alloc: Global, target: &RvTarget, image: &Image) -> Result<Machine, OutOfMemory>
     requires { target.now.code ≡ code_of image.now (numbers_of target.now.config) }
     ensures state { IfOk result (λ machine. state_of machine ≡ start_of (numbers_of target.now.config) image.now) }
+    ensures cores { IfOk result (λ machine. length machine.cores ≡ target.now.config.cores) }
     ensures chans { IfOk result (λ machine. length machine.chans ≡ 1) }
 {
     let config = &target.config;
@@ -161,7 +165,8 @@ pub fn start(alloc: Global, target: &RvTarget, image: &Image) -> Result<Machine,
 
 /// The cores before the first cycle.
 fn first_cores(alloc: Global, config: &Config, entry: u32) -> Result<CoreList, OutOfMemory>
-    ensures { IfOk result (λ cores. cores ≡ map (first_core (numbers_of config.now) entry) (range_with_len 0 config.now.cores)) }
+    ensures cores { IfOk result (λ cores. cores ≡ map (first_core (numbers_of config.now) entry) (range_with_len 0 config.now.cores)) }
+    ensures count { IfOk result (λ cores. length cores ≡ config.now.cores) }
 {
     let mut cores = CoreList::new(alloc);
     for number in 0..config.cores {

@@ -25,6 +25,7 @@ pub fn run(
     requires chans { length machine.old.chans ≡ 1 }
     ensures stops { OnOk result (Stops (rules_of target.now.code) interval limit (state_of machine.old) machine.new.clock) }
     ensures state { OnOk result (state_of machine.new ≡ lockstep (rules_of target.now.code) (state_of machine.old) (machine.new.clock - machine.old.clock)) }
+    ensures cores { OnOk result (length machine.new.cores ≡ length machine.old.cores) }
     ensures chans { OnOk result (length machine.new.chans ≡ 1) }
 {
     loop {

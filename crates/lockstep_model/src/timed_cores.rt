@@ -83,6 +83,13 @@ impl TimedCore {
         self.ended
     }
 
+    /// Whether the core is running.
+    pub fn is_running(&self) -> bool
+        ensures { result ≡ is_running self.now.ended }
+    {
+        self.ended == CoreEnd::Running
+    }
+
     /// Whether the core has ended.
     pub fn has_ended(&self) -> bool
         ensures { result ≡ not (is_running self.now.ended) }

@@ -1,4 +1,4 @@
-use Rattle.std.proofs.Common.{◌≡◌, ◌∙◌, ◌-◌, ap, arith, rules}
+use Rattle.std.proofs.Common.{◌≡◌, ◌∙◌, ◌-◌, ap, refl, arith, rules}
 use Rattle.lockstep_model.specs.Cycle.{cycle}
 use Rattle.lockstep_model.specs.Machine.{rules_of}
 use Rattle.lockstep_model.specs.Views.{state_of}
@@ -10,6 +10,7 @@ loop-machine-init c = record {
   begun = omega arith;
   order = c.requires.order;
   state = lockstep_none (rules_of c.args.target.now.code) (state_of c.args.machine.now) _ (omega arith);
+  cores = refl;
   chans = c.requires.chans;
 }
 
@@ -20,5 +21,6 @@ loop-machine-preserved c = record {
   state =
       c.in_ok-cycle_with.ensures.state ∙ ap (cycle (rules_of c.args.target.now.code)) c.loop-machine.invariant.state
       ∙ lockstep_more (rules_of c.args.target.now.code) (state_of c.args.machine.now) _ _ (search rules);
+  cores = c.in_ok-cycle_with.ensures.cores ∙ c.loop-machine.invariant.cores;
   chans = c.in_ok-cycle_with.ensures.chans;
 }

@@ -11,6 +11,7 @@ invariant-loop-machine l =
       begun : l.fn.machine.clock ≤ l.machine.clock;
       order : l.machine.clock ≤ l.clock;
       state : state_of l.machine ≡ lockstep (rules_of l.target.code) (state_of l.fn.machine) (l.machine.clock - l.fn.machine.clock);
+      cores : length l.machine.cores ≡ length l.fn.machine.cores;
       chans : length l.machine.chans ≡ 1;
     }
 

@@ -16,4 +16,4 @@ returns-clause-state c =
       cores = map bare (map (first_core (numbers_of c.args.target.now.config) c.args.image.now.entry) (range_with_len 0 c.args.target.now.config.cores));
       chans = xs;
     } in
-    ap by_cores c.in_ok-first_cores.ensures ∙ ap by_chans chans
+    ap by_cores c.in_ok-first_cores.ensures.cores ∙ ap by_chans chans

@@ -1,4 +1,4 @@
-use Rattle.std.proofs.Common.{◌≡◌, ◌-◌, ◌+◌, ◌≤◌, ◌∙◌, min, sym, ap, arith, rules}
+use Rattle.std.proofs.Common.{◌≡◌, ◌-◌, ◌+◌, ◌≤◌, ◌∙◌, min, sym, ap, refl, arith, rules}
 use Rattle.lockstep_model.specs.Cycle.{lockstep}
 use Rattle.lockstep_model.specs.Machine.{rules_of}
 use Rattle.lockstep_model.specs.Views.{state_of}
@@ -12,6 +12,7 @@ loop-machine-init c = record {
   below = c.requires.begins;
   goes = begins (rules_of c.args.target.now.code) c.args.interval c.args.limit (state_of c.args.machine.now);
   state = lockstep_none (rules_of c.args.target.now.code) (state_of c.args.machine.now) _ (omega arith);
+  cores = refl;
   chans = c.requires.chans;
 }
 
@@ -54,5 +55,6 @@ loop-machine-preserved c =
           (c.in_ok-run_to.ensures.clock ∙ c.min-next.ensures)
           (sym (is_over_at laws c.args.interval c.args.limit s (state_of c.run_to.new.machine) next c.is_over.result then c.is_over.ensures) ∙ c.if-is_over.false);
       state = then;
+      cores = c.in_ok-run_to.ensures.cores ∙ c.loop-machine.invariant.cores;
       chans = c.in_ok-run_to.ensures.chans;
     }

@@ -13,6 +13,7 @@ invariant-loop-machine l =
       below : l.machine.clock < l.limit;
       goes : Goes (rules_of l.target.code) l.interval l.limit (state_of l.fn.machine) l.machine.clock;
       state : state_of l.machine ≡ lockstep (rules_of l.target.code) (state_of l.fn.machine) (l.machine.clock - l.fn.machine.clock);
+      cores : length l.machine.cores ≡ length l.fn.machine.cores;
       chans : length l.machine.chans ≡ 1;
     }
 
