@@ -69,3 +69,11 @@ abbrev pub IsWhole : Answer → Type 0
 IsWhole (Done all_zero) = Unit {0}
 IsWhole (Limit cycle running) = Unit {0}
 IsWhole _ = ⊥
+
+-- the machine that is handed back, of what the source told
+abbrev pub EndsRun : RawConfig → Option (List ℕ) → Machine → Type 0
+EndsRun config told m = IfSome told (λ bytes. IsOkAnd (image_told config bytes) (λ image. IsLockstepEnd config image m))
+
+-- the image is refused for this fault, and was read to its end
+abbrev pub RefusesImage : RawConfig → (old new : Option (List ℕ)) → ImageFault → Type 0
+RefusesImage config old new fault = IfSome old (λ told. (image_told config told ≡ Err fault) × (new ≡ Some []))

@@ -33,8 +33,7 @@ pub fn load<S: Source>(alloc: Global, config: &Config, source: &mut S) -> Result
     ensures no_more { S.taken source.old < 2 ^ 63 → S.taken source.new ≤ S.taken source.old + (most_bytes + 1) }
     ensures bad_image { (fault : ImageFault) → IsErrOf result (LoadError.BadImage fault) → IfSome (S.left source.old) (λ told.
         (image_of config.now.base config.now.memory told ≡ Err fault) × (S.left source.new ≡ Some [])) }
-    ensures refuses { (fault : ImageFault) → IfSome (S.left source.old) (λ told. image_of config.now.base config.now.memory told ≡ Err fault →
-        IfOk result (λ _. ⊥)) }
+    ensures told { S.taken source.old < 2 ^ 63 → IfSome (S.left source.old) (λ told. S.taken source.new ≤ S.taken source.old + length told) }
 {
     let bytes = match read_all(alloc, source, MOST_BYTES) {
         Ok(bytes) => bytes,
