@@ -1,5 +1,6 @@
 -- The operations on a cache: that on the set where a line belongs.
-use Rattle.std.specs.Prelude.{ℕ, ◌%◌, ◌<◌, ◌≤◌, ◌≡◌, Bool, List, [], Option, length, replicate, slice_index_or, slice_set, count_by, All}
+use Rattle.std.specs.Prelude.{ℕ, ◌%◌, ◌<◌, ◌≤◌, ◌≡◌, Bool, IsTrue, List, [], ◌∷◌, Option, length, replicate, slice_index_or, slice_set, filter, All}
+use Rattle.slack_base.specs.Bounds.{is_among}
 use Rattle.mesi_cache.specs.declared.lines.CacheLine.{CacheLine}
 use Rattle.mesi_cache.specs.Lines.{written}
 use Rattle.mesi_cache.specs.Sets.{is_line, find_line, to_front, fill_set, fallen, snoop_set}
@@ -45,9 +46,11 @@ snoop_line c line own = with_set c line (snoop_set line own (set_of c line))
 -- a set of a cache: no more lines than ways, no line twice, and each where it belongs
 pub record IsSet (ways sets number : ℕ) (set : List CacheLine) : Type 0 where
   pub within : length set ≤ ways
-  pub once : (line : ℕ) → count_by (is_line line) set ≤ 1
+  pub once : (line : ℕ) → length (filter (is_line line) set) ≤ 1
   pub placed : All (λ l. l.line % sets ≡ number) set
 
--- each set of the cache is one
-abbrev pub IsCache : CacheView → Type 0
-IsCache c = (number : ℕ) → number < length c.sets → IsSet c.ways (length c.sets) number (slice_index_or c.sets number [])
+-- a cache: its number of sets, its ways, and each of its sets
+pub record IsCache (c : CacheView) : Type 0 where
+  pub sets : IsTrue (is_among (length c.sets) (1 ∷ 2 ∷ 4 ∷ 8 ∷ 16 ∷ 32 ∷ 64 ∷ []))
+  pub ways : (1 ≤ c.ways) × (c.ways ≤ 8)
+  pub each : (number : ℕ) → number < length c.sets → IsSet c.ways (length c.sets) number (slice_index_or c.sets number [])

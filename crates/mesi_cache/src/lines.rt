@@ -1,4 +1,6 @@
 //! The lines that a cache holds.
+ghost use Rattle.std.specs.Prelude.{◌≡◌};
+ghost use Rattle.mesi_cache.specs.Lines.{may_write};
 
 use slack_base::Words;
 
@@ -12,6 +14,19 @@ pub enum Held {
     Exclusive,
     /// No other cache holds the line, and it was written here.
     Modified,
+}
+
+impl Held {
+    /// Whether the cache may write the line: no other cache holds it.
+    pub fn may_write(self) -> bool
+        ensures { result ≡ may_write self }
+    {
+        match self {
+            Held::Shared => false,
+            Held::Exclusive => true,
+            Held::Modified => true,
+        }
+    }
 }
 
 /// A line of memory as a cache holds it.
