@@ -2,15 +2,26 @@
 use Rattle.std.proofs.Common.{◌≡◌, ℕ, ◌+◌, ◌%◌, ◌<◌, ◌≤◌, Bool, IsTrue, List, [], ◌∷◌, length, filter, get_or, set, refl, sym, ap, subst, ◌∙◌, inl, inr, arith, length-set, get_or-set_same, get_or-set_other}
 use Rattle.std.proofs.lemmas.Bool.{cases_eq}
 use Rattle.std.proofs.lemmas.Bool.Decides.{nat_tests}
-use Rattle.std.proofs.lemmas.List.{get_or_read}
+use Rattle.std.proofs.lemmas.List.{get_or_read, length-replicate, get_or-replicate}
+use Rattle.std.proofs.lemmas.List.Elements.{All-nil}
 use Rattle.slack_base.specs.Bounds.{is_among}
 use Rattle.mesi_cache.specs.declared.lines.CacheLine.{CacheLine}
 use Rattle.mesi_cache.specs.Sets.{is_line, to_front, fill_set, snoop_set}
-use Rattle.mesi_cache.specs.Caches.{CacheView, IsSet, IsCache, set_number, set_of}
+use Rattle.mesi_cache.specs.Caches.{CacheView, IsSet, IsCache, set_number, set_of, empty_cache}
 use Rattle.mesi_cache.proofs.Kept.{kept_front, kept_fill, kept_snoop}
 
 some_sets : (n : ℕ) → IsTrue (is_among n (1 ∷ 2 ∷ 4 ∷ 8 ∷ 16 ∷ 32 ∷ 64 ∷ [])) → 0 < n
 some_sets n h = grind (arith, nat_tests)
+
+-- the empty cache is one
+pub empty_is : (sets ways : ℕ) → IsTrue (is_among sets (1 ∷ 2 ∷ 4 ∷ 8 ∷ 16 ∷ 32 ∷ 64 ∷ [])) → (1 ≤ ways) × (ways ≤ 8) → IsCache (empty_cache sets ways)
+empty_is sets ways power few = record {
+  sets = rw (length-replicate {A = List CacheLine} sets []) power;
+  ways = few;
+  each = λ k below.
+    let near : k < sets = omega (arith, length-replicate {A = List CacheLine} sets []) in
+    rw (get_or-replicate {A = List CacheLine} sets k [] [] near) (record { within = omega arith; once = λ m. omega arith; placed = All-nil _ });
+}
 
 module _ (v : CacheView) (is : IsCache v) (line number : ℕ) (here : number ≡ set_number v line) where
   pub in_range : number < length v.sets

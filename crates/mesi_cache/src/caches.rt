@@ -47,7 +47,7 @@ impl Cache {
         ensures { IfOk result (λ cache. cache ≡ empty_cache sets ways) }
     {
         let mut empty = Vec::new(alloc);
-        for _ in 0..sets {
+        for _number in 0..sets {
             empty.push(CacheSet::new())?;
         }
         Ok(Cache { ways, sets: empty })
