@@ -19,8 +19,8 @@ empty_is sets ways power few = record {
   sets = rw (length-replicate {A = List CacheLine} sets []) power;
   ways = few;
   each = λ k below.
-    let near : k < sets = omega (arith, length-replicate {A = List CacheLine} sets []) in
-    rw (get_or-replicate {A = List CacheLine} sets k [] [] near) (record { within = omega arith; once = λ m. omega arith; placed = All-nil _ });
+      let near : k < sets = omega (arith, length-replicate {A = List CacheLine} sets []) in
+      rw (get_or-replicate {A = List CacheLine} sets k [] [] near) (record { within = omega arith; once = λ m. omega arith; placed = All-nil _ });
 }
 
 module _ (v : CacheView) (is : IsCache v) (line number : ℕ) (here : number ≡ set_number v line) where
@@ -37,12 +37,12 @@ module _ (v : CacheView) (is : IsCache v) (line number : ℕ) (here : number ≡
       sets = rw (length-set v.sets number t) is.sets;
       ways = is.ways;
       each = λ k below.
-        let near : k < length v.sets = omega (arith, length-set v.sets number t) in
-        rw (length-set v.sets number t)
-        (elim (cases_eq k number) [
-          | inl same ↦ rw (same, get_or-set_same v.sets number t [] in_range) fits
-          | inr other ↦ rw (get_or-set_other v.sets number k t [] other) (is.each k near)
-        ]);
+          let near : k < length v.sets = omega (arith, length-set v.sets number t) in
+          rw (length-set v.sets number t)
+          (elim (cases_eq k number) [
+            | inl same ↦ rw (same, get_or-set_same v.sets number t [] in_range) fits
+            | inr other ↦ rw (get_or-set_other v.sets number k t [] other) (is.each k near)
+          ]);
     }
 
     pub after_front : (change : CacheLine → CacheLine) → ((l : CacheLine) → (change l).line ≡ l.line) → (t : List CacheLine) → t ≡ to_front change line s → IsCache (record { ways = v.ways; sets = set v.sets number t })

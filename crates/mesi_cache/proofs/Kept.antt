@@ -69,18 +69,18 @@ module _ (ways sets number : ℕ) (s : List CacheLine) (is : IsSet ways sets num
       let P : CacheLine → Type 0 = λ l. l.line % sets ≡ number in
       record {
         within =
-          let e = length-append (map change (filter p s)) (others line s) in
-          let m = length-map (filter p s) change in
-          let b = length-filter_both p (λ l. not (p l)) (λ l. refl) s in
-          omega (arith, is.within);
+            let e = length-append (map change (filter p s)) (others line s) in
+            let m = length-map (filter p s) change in
+            let b = length-filter_both p (λ l. not (p l)) (λ l. refl) s in
+            omega (arith, is.within);
         once = λ m.
-          let e = ap length (filter-append (is_line m) (map change (filter p s)) (others line s)) in
-          let a = length-append (filter (is_line m) (map change (filter p s))) (filter (is_line m) (others line s)) in
-          let c = count_parts p (is_line m) change (λ l. ap (λ n. eqb n m) (keeps l)) s in
-          omega (arith, is.once m);
+            let e = ap length (filter-append (is_line m) (map change (filter p s)) (others line s)) in
+            let a = length-append (filter (is_line m) (map change (filter p s))) (filter (is_line m) (others line s)) in
+            let c = count_parts p (is_line m) change (λ l. ap (λ n. eqb n m) (keeps l)) s in
+            omega (arith, is.once m);
         placed = All-append P _ _
-          (All-map P change (filter p s) (λ k d h. ap (λ n. n % sets) (keeps _) ∙ All-filter p P s is.placed k d h))
-          (All-filter (λ l. not (p l)) P s is.placed);
+            (All-map P change (filter p s) (λ k d h. ap (λ n. n % sets) (keeps _) ∙ All-filter p P s is.placed k d h))
+            (All-filter (λ l. not (p l)) P s is.placed);
       }
 
   pub kept_fill : (new : CacheLine) → new.line % sets ≡ number → IsSet ways sets number (fill_set ways new s)
@@ -90,13 +90,13 @@ module _ (ways sets number : ℕ) (s : List CacheLine) (is : IsSet ways sets num
         within = omega (arith, length-take ways (new ∷ others new.line s));
         once = λ m. elim (cases_Bool (is_line m new)) [
           | inl y ↦
-            let same : new.line ≡ m = eqb-true new.line m y in
-            let none : filter (is_line m) (others new.line s) ≡ [] = rw same (none_left (is_line m) s) in
-            let one : length (filter (is_line m) (new ∷ others new.line s)) ≡ 1 = rw (y, none) refl in
-            omega (arith, count_take (is_line m) ways (new ∷ others new.line s))
+              let same : new.line ≡ m = eqb-true new.line m y in
+              let none : filter (is_line m) (others new.line s) ≡ [] = rw same (none_left (is_line m) s) in
+              let one : length (filter (is_line m) (new ∷ others new.line s)) ≡ 1 = rw (y, none) refl in
+              omega (arith, count_take (is_line m) ways (new ∷ others new.line s))
           | inr n ↦
-            let few : length (filter (is_line m) (new ∷ others new.line s)) ≤ length (filter (is_line m) s) = rw n (count_filter (λ l. not (is_line new.line l)) (is_line m) s) in
-            omega (arith, is.once m, count_take (is_line m) ways (new ∷ others new.line s))
+              let few : length (filter (is_line m) (new ∷ others new.line s)) ≤ length (filter (is_line m) s) = rw n (count_filter (λ l. not (is_line new.line l)) (is_line m) s) in
+              omega (arith, is.once m, count_take (is_line m) ways (new ∷ others new.line s))
         ];
         placed = All-take P ways (new ∷ others new.line s) (All-cons P new _ belongs (All-filter (λ l. not (is_line new.line l)) P s is.placed));
       }
@@ -109,8 +109,8 @@ module _ (ways sets number : ℕ) (s : List CacheLine) (is : IsSet ways sets num
       let P : CacheLine → Type 0 = λ l. l.line % sets ≡ number in
       record {
         within =
-          let b = length-filter_both (is_line line) (λ l. not (is_line line l)) (λ l. refl) s in
-          omega (arith, is.within);
+            let b = length-filter_both (is_line line) (λ l. not (is_line line l)) (λ l. refl) s in
+            omega (arith, is.within);
         once = λ m. omega (arith, is.once m, count_filter (λ l. not (is_line line l)) (is_line m) s);
         placed = All-filter (λ l. not (is_line line l)) P s is.placed;
       }

@@ -21,8 +21,8 @@ abbrev pub set_of : CacheView → ℕ → List CacheLine
 set_of c line = slice_index_or c.sets (set_number c line) []
 
 -- the line, if the cache holds it
-abbrev pub line_of : CacheView → ℕ → Option CacheLine
-line_of c line = find_line line (set_of c line)
+abbrev pub line_in : CacheView → ℕ → Option CacheLine
+line_in c line = find_line line (set_of c line)
 
 -- the cache with another set where the line belongs
 abbrev pub with_set : CacheView → ℕ → List CacheLine → CacheView

@@ -4,7 +4,7 @@ ghost use Rattle.std.specs.Option.{option_map};
 ghost use Rattle.slack_base.specs.Bounds.{is_among};
 ghost use Rattle.mesi_cache.specs.Words.{word_of};
 ghost use Rattle.mesi_cache.specs.Lines.{filled, held_line, may_write};
-ghost use Rattle.mesi_cache.specs.Caches.{empty_cache, line_of, read_line, write_line, fill_line, victim_of, snoop_line, IsCache};
+ghost use Rattle.mesi_cache.specs.Caches.{empty_cache, line_in, read_line, write_line, fill_line, victim_of, snoop_line, IsCache};
 
 use crate::lines::{CacheLine, Held, HeldLine, Victim};
 use crate::sets::CacheSet;
@@ -69,7 +69,7 @@ impl Cache {
 
     /// The state of a line: none where the cache doesn't hold it.
     pub fn lookup(&self, line: u32) -> Option<Held>
-        ensures held { result ≡ option_map (λ l. l.held) (line_of self.now line) }
+        ensures held { result ≡ option_map (λ l. l.held) (line_in self.now line) }
         ensures cache { IsCache self.now }
     {
         let found = self.find(line)?;
@@ -78,7 +78,7 @@ impl Cache {
 
     /// The state and the words of a line: none where the cache doesn't hold it.
     pub fn peek(&self, line: u32) -> Option<HeldLine>
-        ensures { result ≡ option_map held_line (line_of self.now line) }
+        ensures { result ≡ option_map held_line (line_in self.now line) }
     {
         let found = self.find(line)?;
         Some(HeldLine {
@@ -88,7 +88,7 @@ impl Cache {
     }
 
     fn find(&self, line: u32) -> Option<CacheLine>
-        ensures line { result ≡ line_of self.now line }
+        ensures line { result ≡ line_in self.now line }
         ensures cache { IsCache self.now }
     {
         let number = set_number(line, self.sets.len());
@@ -98,9 +98,9 @@ impl Cache {
 
     /// Reads a word, 0 to 3, of a line that the cache holds. The line becomes the most recent of its set.
     pub fn read(&mut self, line: u32, word: u32) -> u32
-        requires held { IsSome (line_of self.old line) }
+        requires held { IsSome (line_in self.old line) }
         requires in_line { word < 4 }
-        ensures value { option_map (λ l. word_of l.words word) (line_of self.old line) ≡ Some result }
+        ensures value { option_map (λ l. word_of l.words word) (line_in self.old line) ≡ Some result }
         ensures after { self.new ≡ read_line self.old line }
     {
         let number = set_number(line, self.sets.len());
@@ -111,7 +111,7 @@ impl Cache {
     /// Writes a word, 0 to 3, of a line that this cache alone holds. The line becomes Modified, and the most
     /// recent of its set.
     pub fn write(&mut self, line: u32, word: u32, value: u32)
-        requires alone { IsSomeAnd (line_of self.old line) (λ l. IsTrue (may_write l.held)) }
+        requires alone { IsSomeAnd (line_in self.old line) (λ l. IsTrue (may_write l.held)) }
         requires in_line { word < 4 }
         ensures { self.new ≡ write_line self.old line word value }
     {
@@ -126,7 +126,11 @@ impl Cache {
         ensures victim { result ≡ victim_of self.old (filled line exclusive words) }
         ensures after { self.new ≡ fill_line self.old (filled line exclusive words) }
     {
-        let held = if exclusive { Held::Exclusive } else { Held::Shared };
+        let held = if exclusive {
+            Held::Exclusive
+        } else {
+            Held::Shared
+        };
         let new = CacheLine { line, held, words };
         let ways = self.ways as usize;
         let number = set_number(line, self.sets.len());
@@ -138,11 +142,56 @@ impl Cache {
     /// order of the lines that stay doesn't change. The answer is the line's words: none where the cache doesn't
     /// hold it.
     pub fn snoop(&mut self, line: u32, own: bool) -> Option<Words>
-        ensures words { result ≡ option_map (λ l. l.words) (line_of self.old line) }
+        ensures words { result ≡ option_map (λ l. l.words) (line_in self.old line) }
         ensures after { self.new ≡ snoop_line self.old line own }
     {
         let number = set_number(line, self.sets.len());
         let set = &mut self.sets[number];
         set.snoop(line, own)
+    }
+}
+
+#[cfg(test)]
+mod tests {
+    use super::*;
+    use std::test::Fail;
+
+    fn words_of(line: u32) -> Words {
+        Words {
+            w0: line,
+            w1: 0,
+            w2: 0,
+            w3: 0,
+        }
+    }
+
+    #[test]
+    fn the_least_recent_line_falls_out(rt: HostRuntime) -> Result<(), Fail> {
+        let mut cache = Cache::new(rt.alloc(), 1, 2)?;
+        // the line that is filled, and the one that falls out
+        let rows = [(1, None), (2, None), (1, None), (3, Some(2)), (4, Some(1))];
+        for (line, fallen) in rows {
+            let victim = cache.fill(line, true, words_of(line));
+            assert_eq!(rt; victim.map(|v| v.line), fallen);
+        }
+        Ok(())
+    }
+
+    #[test]
+    fn a_copy_holds_the_same_lines(rt: HostRuntime) -> Result<(), Fail> {
+        let mut cache = Cache::new(rt.alloc(), 4, 1)?;
+        cache.fill(5, false, words_of(5));
+        let copied = cache.copy()?;
+        cache.fill(9, true, words_of(9));
+        // the line, and its state in the copy and in the cache
+        let rows = [
+            (5, Some(Held::Shared), None),
+            (9, None, Some(Held::Exclusive)),
+        ];
+        for (line, in_copy, in_cache) in rows {
+            assert_eq!(rt; copied.lookup(line), in_copy);
+            assert_eq!(rt; cache.lookup(line), in_cache);
+        }
+        Ok(())
     }
 }

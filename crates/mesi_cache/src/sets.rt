@@ -110,9 +110,8 @@ impl CacheSet {
         requires { length self.old < 8 }
         ensures { self.new ≡ line ∷ self.old }
     {
-        self.lines.copy_within(0..self.len, 1);
-        self.lines[0] = line;
         self.len += 1;
+        self.put_front(self.len - 1, line);
     }
 
     /// Takes out the line at a place.

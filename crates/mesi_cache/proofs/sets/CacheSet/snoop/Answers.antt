@@ -1,4 +1,4 @@
-use Rattle.std.proofs.Common.{◌≡◌, Some, ap, sym, ◌∙◌, refl}
+use Rattle.std.proofs.Common.{◌≡◌, Some, ap, sym, ◌∙◌, refl, rules}
 use Rattle.mesi_cache.proofs.SetSteps.{find_held, find_missing, snoop_held, snoop_missing}
 use Rattle.mesi_cache.proofs.sets.CacheSet.snoop.Goals as goal
 use Rattle.mesi_cache.proofs.sets.CacheSet.snoop.Goals.{then-own, else-own}
@@ -20,4 +20,4 @@ pub returns-clause-after : goal.returns-clause-after
 returns-clause-after c =
     let place = sym c.place_of.ensures ∙ c.in_ok-place.was in
     rw (snoop_held c.args.line c.args.self.now c.in_ok-place.place c.at-snooped.result c.requires.once place c.at-snooped.ensures c.args.own)
-    (elim c.if-own.branch [ then-own w ↦ rw w.if-own.true (w.self-is ∙ w.remove.ensures) | else-own w ↦ rw w.if-own.false (w.self-is ∙ w.set.ensures) ])
+    (elim c.if-own.branch [ then-own w ↦ rw w.if-own.true (search rules) | else-own w ↦ rw w.if-own.false (search rules) ])
