@@ -1,13 +1,13 @@
 -- Each operation on a cache leaves one.
-use Rattle.std.proofs.Common.{◌≡◌, ℕ, ◌+◌, ◌%◌, ◌<◌, ◌≤◌, Bool, IsTrue, List, [], ◌∷◌, length, filter, get_or, set, refl, sym, ap, subst, ◌∙◌, inl, inr, arith, length-set, get_or-set_same, get_or-set_other}
+use Rattle.std.proofs.Common.{◌≡◌, ℕ, ◌<◌, ◌≤◌, Bool, IsTrue, List, [], ◌∷◌, length, get_or, set, sym, inl, inr, arith, length-set, get_or-set_same, get_or-set_other}
 use Rattle.std.proofs.lemmas.Bool.{cases_eq}
 use Rattle.std.proofs.lemmas.Bool.Decides.{nat_tests}
 use Rattle.std.proofs.lemmas.List.{get_or_read, length-replicate, get_or-replicate}
 use Rattle.std.proofs.lemmas.List.Elements.{All-nil}
 use Rattle.slack_base.specs.Bounds.{is_among}
 use Rattle.mesi_cache.specs.declared.lines.CacheLine.{CacheLine}
-use Rattle.mesi_cache.specs.Sets.{is_line, to_front, fill_set, snoop_set}
-use Rattle.mesi_cache.specs.Caches.{CacheView, IsSet, IsCache, set_number, set_of, empty_cache}
+use Rattle.mesi_cache.specs.Sets.{to_front, fill_set, snoop_set}
+use Rattle.mesi_cache.specs.Caches.{CacheView, IsSet, IsCache, set_number, empty_cache}
 use Rattle.mesi_cache.proofs.Kept.{kept_front, kept_fill, kept_snoop}
 
 some_sets : (n : ℕ) → IsTrue (is_among n (1 ∷ 2 ∷ 4 ∷ 8 ∷ 16 ∷ 32 ∷ 64 ∷ [])) → 0 < n

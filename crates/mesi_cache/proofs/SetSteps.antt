@@ -1,12 +1,11 @@
 -- What the operations on a set come to, where the place of the line is known, and where the set doesn't hold it.
-use Rattle.std.proofs.Common.{◌≡◌, ℕ, suc, ◌+◌, ◌-◌, ◌<◌, ◌≤◌, Bool, true, false, List, [], ◌∷◌, ◌++◌, Option, Some, None, IsSome, IsSomeAnd, IsTrue, length, filter, position, take, drop, set, remove, slice_get, refl, sym, ap, ◌∙◌, cond, arith}
+use Rattle.std.proofs.Common.{◌≡◌, ℕ, suc, ◌+◌, ◌-◌, ◌<◌, ◌≤◌, Bool, true, false, List, ◌∷◌, ◌++◌, Some, None, IsSome, IsSomeAnd, IsTrue, length, filter, position, take, set, remove, slice_get, refl, sym, ap, ◌∙◌, cond, arith}
 use Rattle.std.proofs.lemmas.List.{take_all, drop_all, append-nil}
 use Rattle.std.proofs.lemmas.List.Edits.{length-remove}
 use Rattle.std.proofs.lemmas.Option.{slice_get_past}
-use Rattle.std.specs.Option.{option_map}
 use Rattle.mesi_cache.specs.declared.lines.CacheLine.{CacheLine}
 use Rattle.mesi_cache.specs.Lines.{shared, may_write}
-use Rattle.mesi_cache.specs.Sets.{is_line, find_line, others, to_front, fill_set, fallen, snoop_set}
+use Rattle.mesi_cache.specs.Sets.{is_line, find_line, others, to_front, snoop_set}
 use Rattle.mesi_cache.proofs.Once.{Found, found, Missing, missing}
 
 -- the line stands at place i

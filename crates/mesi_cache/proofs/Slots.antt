@@ -1,7 +1,7 @@
 -- The list that stands in the first places of an array, after a change of the array.
-use Rattle.std.proofs.Common.{◌≡◌, ◌≢◌, ℕ, ◌+◌, ◌-◌, ◌<◌, ◌≤◌, ◌⊎◌, List, [], ◌∷◌, ◌++◌, length, get_or, take, drop, set, remove, Some, slice_get, refl, sym, ap, ◌∙◌, inl, inr, arith, rules, length-take-le, get_or-take, get_or-set_same}
+use Rattle.std.proofs.Common.{◌≡◌, ℕ, ◌+◌, ◌-◌, ◌<◌, ◌≤◌, List, ◌∷◌, length, get_or, take, set, remove, Some, slice_get, sym, ap, ◌∙◌, arith, rules, length-take-le, get_or-take, get_or-set_same}
 use Rattle.std.specs.List.{copy_within}
-use Rattle.std.proofs.lemmas.List.{places, same_lists, take_more}
+use Rattle.std.proofs.lemmas.List.{places, same_lists}
 use Rattle.std.proofs.lemmas.Bool.{cases_eq}
 use Rattle.std.proofs.lemmas.Option.{slice_get-get_or}
 

@@ -1,4 +1,4 @@
-use Rattle.std.proofs.Common.{◌≡◌, ◌≤◌, length, sym, ◌∙◌, arith}
+use Rattle.std.proofs.Common.{sym, ◌∙◌, arith}
 use Rattle.mesi_cache.specs.Sets.{is_line}
 use Rattle.mesi_cache.proofs.Once.{get_found}
 use Rattle.mesi_cache.proofs.SetSteps.{fill_held, fallen_held, fill_room, fallen_room, fill_full, fallen_full}

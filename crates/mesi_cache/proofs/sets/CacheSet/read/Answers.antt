@@ -1,6 +1,4 @@
-use Rattle.std.proofs.Common.{◌≡◌, Some, ap, sym, ◌∙◌}
-use Rattle.std.specs.Option.{option_map}
-use Rattle.mesi_cache.specs.Words.{word_of}
+use Rattle.std.proofs.Common.{Some, ap, sym, ◌∙◌}
 use Rattle.mesi_cache.proofs.SetSteps.{find_held, front_held, not_held}
 use Rattle.mesi_cache.proofs.sets.CacheSet.read.Goals as goal
 

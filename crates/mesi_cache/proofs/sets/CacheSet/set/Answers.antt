@@ -1,5 +1,5 @@
 use Rattle.std.proofs.Common.{arith}
-use Rattle.mesi_cache.proofs.Slots.{put_at, length_shown}
+use Rattle.mesi_cache.proofs.Slots.{put_at}
 use Rattle.mesi_cache.proofs.sets.CacheSet.set.Goals as goal
 
 pub returns : goal.returns

@@ -1,4 +1,4 @@
-use Rattle.std.proofs.Common.{◌≡◌, Some, ap, sym, ◌∙◌, refl, rules}
+use Rattle.std.proofs.Common.{sym, ◌∙◌, refl, rules}
 use Rattle.mesi_cache.proofs.SetSteps.{find_held, find_missing, snoop_held, snoop_missing}
 use Rattle.mesi_cache.proofs.sets.CacheSet.snoop.Goals as goal
 use Rattle.mesi_cache.proofs.sets.CacheSet.snoop.Goals.{then-own, else-own}

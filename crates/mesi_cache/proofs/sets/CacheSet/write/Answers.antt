@@ -1,4 +1,4 @@
-use Rattle.std.proofs.Common.{◌≡◌, Some, ap, sym, ◌∙◌, refl, IsTrue}
+use Rattle.std.proofs.Common.{sym, ◌∙◌, refl, IsTrue}
 use Rattle.std.proofs.lemmas.Bool.{both_ways}
 use Rattle.mesi_cache.specs.Lines.{written, may_write}
 use Rattle.mesi_cache.proofs.SetSteps.{front_held, not_written, may_write_held}
