@@ -1,0 +1,153 @@
+//! An entry of the status map, and what each kind of ask does to it.
+ghost use Rattle.std.specs.Prelude.{◌≡◌, ◌+◌, ◌^◌, ◌<◌, ◌≤◌, [], ◌∷◌, ◌++◌, length, max, map};
+ghost use Rattle.status_map.specs.Cores.{others};
+ghost use Rattle.status_map.specs.Entries.{NamesBelow, AreShort};
+ghost use Rattle.status_map.specs.Table.{send, post_of, serve, WritesBack};
+
+use crate::batches::PostBatch;
+use crate::cores::{CORES, holds, with_core};
+use crate::views::{Delays, EntryKind, EntryView};
+use slack_base::{Ask, Id, Post, PostKind, Words};
+use std::marker::Model;
+
+/// The entry of a line: who holds it, from which cycle this is settled, and the words that memory has. The cores
+/// that it names are below 8. A contract sees its view.
+#[derive(Clone, Copy, Debug, PartialEq, Eq)]
+pub struct Entry {
+    view: EntryView,
+}
+
+impl Model for Entry {
+    ghost use Rattle.status_map.specs.declared.views.EntryView.{EntryView};
+    ghost use Rattle.status_map.specs.Entries.{NamesBelow};
+
+    ghost Value = { EntryView };
+
+    ghost view = { λ e. e.view };
+
+    ghost invariant = { λ e. NamesBelow 8 e.view.kind };
+
+    ghost inverse = { λ v. record { view = v } };
+}
+
+/// An ask for a line that was granted its bus at a cycle.
+#[derive(Clone, Copy)]
+struct Granted {
+    id: Id,
+    line: u32,
+    grant: u64,
+}
+
+impl Granted {
+    /// Sends a post to a core, due so long after the grant.
+    fn send(&self, to: u32, delay: u64, kind: PostKind, out: &mut PostBatch)
+        requires grant { self.now.grant ≤ 2 ^ 62 }
+        requires delay { delay ≤ 64 }
+        requires room { length out.old < 8 }
+        ensures { out.new ≡ out.old ++ post_of self.now.id self.now.line self.now.grant (send to delay kind) ∷ [] }
+    {
+        out.push(Post {
+            to,
+            due: self.grant + delay,
+            id: self.id,
+            line: self.line,
+            kind,
+        });
+    }
+}
+
+impl Entry {
+    /// The entry of a line that no core holds.
+    pub fn idle(words: Words) -> Entry
+        ensures { result ≡ record { kind = EntryKind.Idle; settled = 0; words = words } }
+    {
+        Entry {
+            view: EntryView {
+                kind: EntryKind::Idle,
+                settled: 0,
+                words,
+            },
+        }
+    }
+
+    /// What the entry says.
+    pub fn view(&self) -> EntryView
+        ensures view { result ≡ self.now }
+        ensures cores { NamesBelow 8 result.kind }
+    {
+        self.view
+    }
+
+    /// Who holds the line from now on, and the words that memory has.
+    fn set(&mut self, kind: EntryKind, words: Words)
+        requires { NamesBelow 8 kind }
+        ensures { self.new ≡ record self.old { kind = kind; words = words } }
+    {
+        self.view.kind = kind;
+        self.view.words = words;
+    }
+
+    /// Settles the line after a reply with this due.
+    fn settle(&mut self, due: u64)
+        requires { due < 2 ^ 63 }
+        ensures { self.new ≡ record self.old { settled = max self.old.settled (due + 1) } }
+    {
+        self.view.settled = self.view.settled.max(due + 1);
+    }
+
+    /// Promises the line to a core, with the words that memory has.
+    fn reply(&mut self, asked: &Granted, to: u32, delay: u64, exclusive: bool, out: &mut PostBatch)
+        requires grant { asked.now.grant ≤ 2 ^ 62 }
+        requires delay { delay ≤ 64 }
+        requires room { length out.old < 8 }
+        ensures entry { self.new ≡ record self.old { settled = max self.old.settled (asked.now.grant + delay + 1) } }
+        ensures posts { out.new ≡ out.old ++ post_of asked.now.id asked.now.line asked.now.grant (send to delay (PostKind.Reply exclusive self.old.words)) ∷ [] }
+    {
+        let words = self.view().words;
+        asked.send(to, delay, PostKind::Reply { exclusive, words }, out);
+        self.settle(asked.grant + delay);
+    }
+
+    /// A core asks to read the line.
+    #[tactic(auto, unfolding(crate::specs::Table::serve, crate::specs::Table::row))]
+    pub fn read(&mut self, id: Id, line: u32, grant: u64, delays: &Delays, out: &mut PostBatch)
+        requires core { id.core < 8 }
+        requires grant { grant ≤ 2 ^ 62 }
+        requires delays { AreShort delays.now }
+        requires empty { out.old ≡ [] }
+        ensures entry { self.new ≡ (serve delays.now grant (Ask.Read id line) self.old).entry }
+        ensures posts { out.new ≡ (serve delays.now grant (Ask.Read id line) self.old).posts }
+    {
+        let core = id.core;
+        let asked = Granted { id, line, grant };
+        let EntryView {
+            kind,
+            settled,
+            words,
+        } = self.view();
+        match kind {
+            EntryKind::Moving { .. } => asked.send(core, delays.snoop, PostKind::Retry, out),
+            EntryKind::Owned { .. } if grant < settled => {
+                asked.send(core, delays.snoop, PostKind::Retry, out);
+            }
+            EntryKind::Owned { core: owner } if owner != core => {
+                asked.send(owner, delays.snoop, PostKind::SnoopShare, out);
+                let moving = EntryKind::Moving {
+                    owner,
+                    requester: core,
+                    exclusive: false,
+                };
+                self.set(moving, words);
+            }
+            EntryKind::Idle | EntryKind::Owned { .. } => {
+                self.set(EntryKind::Owned { core }, words);
+                self.reply(&asked, core, delays.memory, true, out);
+            }
+            EntryKind::Shared { cores } => {
+                let sharers = with_core(cores, core);
+                self.set(EntryKind::Shared { cores: sharers }, words);
+                self.reply(&asked, core, delays.memory, false, out);
+            }
+        }
+    }
+}
