@@ -1,1 +1,3 @@
+pub mod Invalidated
+pub mod Others
 pub mod Sets

@@ -14,6 +14,10 @@ with_core cores core = bit_or cores (2 ^ core)
 abbrev pub only : ℕ → ℕ
 only core = with_core 0 core
 
--- the members of the set but for one core, in the order of their numbers
+-- the core is in the set, and isn't the one that asks
+abbrev pub is_other : ℕ → ℕ → ℕ → Bool
+is_other cores asking core = not (core == asking) && holds cores core
+
+-- the members of the set but for the one that asks, in the order of their numbers
 abbrev pub others : ℕ → ℕ → List ℕ
-others cores core = filter (λ k. holds cores k && not (k == core)) (0 ∷ 1 ∷ 2 ∷ 3 ∷ 4 ∷ 5 ∷ 6 ∷ 7 ∷ [])
+others cores asking = filter (is_other cores asking) (0 ∷ 1 ∷ 2 ∷ 3 ∷ 4 ∷ 5 ∷ 6 ∷ 7 ∷ [])

@@ -5,7 +5,7 @@ ghost use Rattle.status_map.specs.Entries.{NamesBelow, AreShort};
 ghost use Rattle.status_map.specs.Table.{send, post_of, serve, WritesBack};
 
 use crate::batches::PostBatch;
-use crate::cores::{CORES, holds, with_core};
+use crate::cores::{CORES, is_other, with_core};
 use crate::views::{Delays, EntryKind, EntryView};
 use slack_base::{Ask, Id, Post, PostKind, Words};
 use std::marker::Model;
@@ -53,6 +53,22 @@ impl Granted {
             line: self.line,
             kind,
         });
+    }
+
+    /// Invalidates the line in each core of a set but the one that asks, in the order of the cores.
+    fn invalidate(&self, cores: u32, delay: u64, out: &mut PostBatch)
+        requires core { self.now.id.core < 8 }
+        requires grant { self.now.grant ≤ 2 ^ 62 }
+        requires delay { delay ≤ 64 }
+        requires empty { out.old ≡ [] }
+        ensures posts { out.new ≡ map (λ k. post_of self.now.id self.now.line self.now.grant (send k delay PostKind.Invalidate)) (others cores self.now.id.core) }
+        ensures room { length out.new < 8 }
+    {
+        for core in CORES {
+            if is_other(cores, self.id.core, core) {
+                self.send(core, delay, PostKind::Invalidate, out);
+            }
+        }
     }
 }
 
@@ -150,4 +166,124 @@ impl Entry {
             }
         }
     }
+
+    /// A core asks to own the line.
+    #[tactic(auto, unfolding(crate::specs::Table::serve, crate::specs::Table::row))]
+    pub fn read_own(&mut self, id: Id, line: u32, grant: u64, delays: &Delays, out: &mut PostBatch)
+        requires core { id.core < 8 }
+        requires grant { grant ≤ 2 ^ 62 }
+        requires delays { AreShort delays.now }
+        requires empty { out.old ≡ [] }
+        ensures entry { self.new ≡ (serve delays.now grant (Ask.ReadOwn id line) self.old).entry }
+        ensures posts { out.new ≡ (serve delays.now grant (Ask.ReadOwn id line) self.old).posts }
+    {
+        let core = id.core;
+        let asked = Granted { id, line, grant };
+        let EntryView {
+            kind,
+            settled,
+            words,
+        } = self.view();
+        if grant < settled {
+            asked.send(core, delays.snoop, PostKind::Retry, out);
+            return;
+        }
+        match kind {
+            EntryKind::Moving { .. } => asked.send(core, delays.snoop, PostKind::Retry, out),
+            EntryKind::Owned { core: owner } if owner != core => {
+                asked.send(owner, delays.snoop, PostKind::SnoopOwn, out);
+                let moving = EntryKind::Moving {
+                    owner,
+                    requester: core,
+                    exclusive: true,
+                };
+                self.set(moving, words);
+            }
+            EntryKind::Idle | EntryKind::Owned { .. } => {
+                self.set(EntryKind::Owned { core }, words);
+                self.reply(&asked, core, delays.memory, true, out);
+            }
+            EntryKind::Shared { cores } => {
+                asked.invalidate(cores, delays.snoop, out);
+                self.set(EntryKind::Owned { core }, words);
+                self.reply(&asked, core, delays.memory, true, out);
+            }
+        }
+    }
+
+    /// A core sends back the words of a line that it wrote and no longer holds.
+    #[tactic(auto, unfolding(crate::specs::Table::serve, crate::specs::Table::row))]
+    pub fn write_back(&mut self, core: u32, words: Words)
+        requires { core < 8 }
+        ensures { WritesBack core words self.old self.new }
+    {
+        match self.view().kind {
+            EntryKind::Owned { core: owner } if owner == core => self.set(EntryKind::Idle, words),
+            EntryKind::Moving {
+                owner,
+                requester,
+                exclusive,
+            } if owner == core => {
+                let moving = EntryKind::Moving {
+                    owner,
+                    requester,
+                    exclusive,
+                };
+                self.set(moving, words);
+            }
+            _ => {}
+        }
+    }
+
+    /// The owner of a line on its way answers the snoop, with the line's words where it still held it.
+    #[tactic(auto, unfolding(crate::specs::Table::serve, crate::specs::Table::row))]
+    pub fn flush(
+        &mut self,
+        id: Id,
+        line: u32,
+        words: Option<Words>,
+        grant: u64,
+        delays: &Delays,
+        out: &mut PostBatch,
+    )
+        requires core { id.core < 8 }
+        requires grant { grant ≤ 2 ^ 62 }
+        requires delays { AreShort delays.now }
+        requires empty { out.old ≡ [] }
+        ensures entry { self.new ≡ (serve delays.now grant (Ask.Flush id line words) self.old).entry }
+        ensures posts { out.new ≡ (serve delays.now grant (Ask.Flush id line words) self.old).posts }
+    {
+        let core = id.core;
+        let asked = Granted { id, line, grant };
+        let old = self.view();
+        let EntryKind::Moving {
+            owner,
+            requester,
+            exclusive,
+        } = old.kind
+        else {
+            return;
+        };
+        if owner != core {
+            return;
+        }
+        match words {
+            _ if exclusive => {
+                let memory = words.unwrap_or(old.words);
+                self.set(EntryKind::Owned { core: requester }, memory);
+            }
+            Some(flushed) => {
+                let cores = with_core(with_core(0, core), requester);
+                self.set(EntryKind::Shared { cores }, flushed);
+            }
+            None => {
+                let cores = with_core(0, requester);
+                self.set(EntryKind::Shared { cores }, old.words);
+            }
+        }
+        self.reply(&asked, requester, delays.transfer, exclusive, out);
+    }
 }
+
+#[cfg(test)]
+mod tests;
