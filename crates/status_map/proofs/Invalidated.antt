@@ -1,5 +1,5 @@
 -- A core takes a line that others share.
-use Rattle.std.proofs.Common.{◌≡◌, ℕ, ◌+◌, Bool, true, false, List, [], ◌∷◌, ◌++◌, max, map, nat_lt, refl, sym, ap, ap₂, ◌∙◌}
+use Rattle.std.proofs.Common.{◌≡◌, ℕ, ◌+◌, true, false, List, [], ◌∷◌, ◌++◌, max, map, nat_lt, refl, ap, ◌∙◌}
 use Rattle.std.specs.List.{fold}
 use Rattle.std.proofs.lemmas.List.{map-append}
 use Rattle.slack_base.specs.declared.stamps.Id.{Id}
@@ -10,7 +10,7 @@ use Rattle.status_map.specs.declared.views.EntryKind.TheVariants.{Shared, Owned}
 use Rattle.status_map.specs.declared.views.EntryView.{EntryView}
 use Rattle.status_map.specs.declared.views.Delays.{Delays}
 use Rattle.status_map.specs.Cores.{others}
-use Rattle.status_map.specs.Table.{send, post_of, settled_by, Served, serve, row}
+use Rattle.status_map.specs.Table.{send, post_of, settled_by, serve, row}
 
 module _ (id : Id) (line grant delay : ℕ) where
   sent_all : (xs : List ℕ) → map (post_of id line grant) (map (λ k. send k delay Invalidate) xs) ≡ map (λ k. post_of id line grant (send k delay Invalidate)) xs

@@ -1,5 +1,5 @@
 -- Sets of cores as numbers.
-use Rattle.std.proofs.Common.{◌≡◌, ℕ, ◌+◌, ◌*◌, ◌%◌, ◌^◌, ◌<◌, ◌≤◌, Bool, true, false, not, ◌&&◌, ◌||◌, eqb, max, List, refl, sym, ap, ◌∙◌, inl, inr, arith, bit_or, mod-eq_of_lt}
+use Rattle.std.proofs.Common.{◌≡◌, ℕ, ◌*◌, ◌%◌, ◌^◌, ◌<◌, true, false, ◌||◌, eqb, max, refl, inl, inr, arith, mod-eq_of_lt}
 use Rattle.std.specs.Int.{bit_at}
 use Rattle.std.proofs.lemmas.Bool.{cases_eq, cases_lt, both_ways, eq-eqb, ne_eqb}
 use Rattle.std.proofs.lemmas.Nat.{or_lt}

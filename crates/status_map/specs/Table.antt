@@ -1,9 +1,9 @@
 -- What an ask does to the entry of its line.
-use Rattle.std.specs.Prelude.{◌≡◌, ℕ, ◌+◌, Bool, true, false, not, List, [], ◌∷◌, ◌++◌, Option, Some, None, ◌==◌, nat_lt, max, map, fold, unwrap_or, if◌then◌else◌}
+use Rattle.std.specs.Prelude.{◌≡◌, ℕ, ◌+◌, Bool, true, false, List, [], ◌∷◌, ◌++◌, Some, None, ◌==◌, nat_lt, max, map, fold, unwrap_or, if◌then◌else◌}
 use Rattle.slack_base.specs.declared.stamps.Id.{Id}
 use Rattle.slack_base.specs.declared.messages.Words.{Words}
 use Rattle.slack_base.specs.declared.messages.Ask.{Ask}
-use Rattle.slack_base.specs.declared.messages.Ask.TheVariants.{Read, ReadOwn, WriteBack, Flush, Put}
+use Rattle.slack_base.specs.declared.messages.Ask.TheVariants.{Read, ReadOwn, WriteBack, Flush}
 use Rattle.slack_base.specs.declared.messages.Post.{Post}
 use Rattle.slack_base.specs.declared.messages.PostKind.{PostKind}
 use Rattle.slack_base.specs.declared.messages.PostKind.TheVariants.{Reply, Retry, SnoopShare, SnoopOwn, Invalidate}

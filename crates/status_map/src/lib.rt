@@ -4,6 +4,7 @@
 pub mod batches;
 pub mod cores;
 pub mod entries;
+pub mod laws;
 pub mod views;
 
 pub use batches::PostBatch;
