@@ -19,11 +19,12 @@ others line set = filter (λ l. not (is_line line l)) set
 abbrev pub to_front : (CacheLine → CacheLine) → ℕ → List CacheLine → List CacheLine
 to_front change line set = map change (filter (is_line line) set) ++ others line set
 
--- a fill puts its line at the front: the set keeps as many lines as it has ways
+-- a fill puts its line at the front of the others: the set keeps as many lines as it has ways
 abbrev pub fill_set : ℕ → CacheLine → List CacheLine → List CacheLine
 fill_set ways new set = take ways (new ∷ others new.line set)
 
--- the last line falls out where the set was full of other lines
+-- the line that falls out: the last one where the set was full of other lines, none where there was room or the
+-- filled line was held
 abbrev pub fallen : ℕ → CacheLine → List CacheLine → Option CacheLine
 fallen ways new set = slice_get (new ∷ others new.line set) ways
 

@@ -57,7 +57,7 @@ impl PostBatch {
     }
 
     /// Puts a post at the end.
-    pub fn push(&mut self, post: Post)
+    pub(crate) fn push(&mut self, post: Post)
         requires { length self.old < 8 }
         ensures { self.new ≡ self.old ++ post ∷ [] }
     {
