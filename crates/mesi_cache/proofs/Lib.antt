@@ -1,0 +1,5 @@
+pub mod CacheSteps
+pub mod Kept
+pub mod Once
+pub mod SetSteps
+pub mod Slots

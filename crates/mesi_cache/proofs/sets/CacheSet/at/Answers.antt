@@ -1,0 +1,6 @@
+use Rattle.std.proofs.Common.{arith}
+use Rattle.mesi_cache.proofs.Slots.{at_place}
+use Rattle.mesi_cache.proofs.sets.CacheSet.at.Goals as goal
+
+pub returns : goal.returns
+returns c = at_place c.self.inside.lines c.self.inside.len (omega arith) c.args.self.now c.self.view_is c.args.place _ c.requires

@@ -1,0 +1,4 @@
+pub mod Caches
+pub mod Lines
+pub mod Sets
+pub mod Words

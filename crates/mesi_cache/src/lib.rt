@@ -1,0 +1,10 @@
+//! The cache of a core: sets of lines, the most recently used first, each line in a state of MESI.
+#![tactic(auto)]
+
+pub mod caches;
+pub mod lines;
+mod sets;
+mod words;
+
+pub use caches::Cache;
+pub use lines::{CacheLine, Held, HeldLine, Victim};

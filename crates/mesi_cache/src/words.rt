@@ -1,0 +1,33 @@
+//! The four words of a line by their places.
+ghost use Rattle.std.specs.Prelude.{◌≡◌, ◌<◌};
+ghost use Rattle.mesi_cache.specs.Words.{word_of, with_word};
+
+use slack_base::Words;
+
+/// The word at a place, 0 to 3.
+pub fn word_at(words: &Words, place: u32) -> u32
+    requires { place < 4 }
+    ensures { result ≡ word_of words.now place }
+{
+    match place {
+        0 => words.w0,
+        1 => words.w1,
+        2 => words.w2,
+        _ => words.w3,
+    }
+}
+
+/// The words with another one at a place, 0 to 3.
+pub fn with_word(words: &Words, place: u32, value: u32) -> Words
+    requires { place < 4 }
+    ensures { result ≡ with_word words.now place value }
+{
+    let mut changed = *words;
+    match place {
+        0 => changed.w0 = value,
+        1 => changed.w1 = value,
+        2 => changed.w2 = value,
+        _ => changed.w3 = value,
+    }
+    changed
+}

@@ -1,0 +1,4 @@
+pub mod Invalidated
+pub mod Lawful
+pub mod Others
+pub mod Sets

@@ -1,0 +1,23 @@
+-- Sets of cores as numbers.
+use Rattle.std.specs.Prelude.{ℕ, ◌^◌, Bool, not, List, [], ◌∷◌, ◌==◌, ◌&&◌, filter, bit_or}
+use Rattle.std.specs.Int.{bit_at}
+
+-- the core is in the set: its bit is 1
+abbrev pub holds : ℕ → ℕ → Bool
+holds cores core = bit_at cores core == 1
+
+-- the set with one more core
+abbrev pub with_core : ℕ → ℕ → ℕ
+with_core cores core = bit_or cores (2 ^ core)
+
+-- the set of one core
+abbrev pub only : ℕ → ℕ
+only core = with_core 0 core
+
+-- the core is in the set, and isn't the one that asks
+abbrev pub is_other : ℕ → ℕ → ℕ → Bool
+is_other cores asking core = not (core == asking) && holds cores core
+
+-- the members of the set but for the one that asks, in the order of their numbers
+abbrev pub others : ℕ → ℕ → List ℕ
+others cores asking = filter (is_other cores asking) (0 ∷ 1 ∷ 2 ∷ 3 ∷ 4 ∷ 5 ∷ 6 ∷ 7 ∷ [])

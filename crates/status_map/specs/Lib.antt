@@ -1,0 +1,4 @@
+pub mod Cores
+pub mod Entries
+pub mod Laws
+pub mod Table
