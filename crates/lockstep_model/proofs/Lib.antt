@@ -2,5 +2,4 @@ pub mod InPlace
 pub mod Bare
 pub mod Lockstep
 pub mod AllEnded
-pub mod Segments
 pub mod Running

@@ -9,7 +9,7 @@ use Rattle.slack_base.specs.declared.limits.RawConfig.{RawConfig}
 use Rattle.slack_base.specs.declared.images.Image.{Image}
 use Rattle.lockstep_model.specs.Code.{CodeValue}
 use Rattle.lockstep_model.specs.Cycle.{CoreValue, State, Rules}
-use Rattle.lockstep_model.specs.Memory.{bytes_from}
+use Rattle.memory_image.specs.Memory.{bytes_from}
 use Rattle.lockstep_model.specs.Ticks.{Inner, tick, is_running}
 
 -- the console appends the byte of a Put, and sends nothing

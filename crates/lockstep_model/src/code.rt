@@ -1,8 +1,8 @@
 //! The instruction memory: the image as it was loaded, which fetches read and nothing writes.
 ghost use Rattle.std.specs.Prelude.{◌≡◌};
 
-use crate::loading::loaded_bytes;
 use byteorder::{ByteOrder, LittleEndian};
+use memory_image::loaded_bytes;
 use slack_base::{Config, Image, OutOfMemory};
 use std::alloc::Global;
 use std::marker::Model;

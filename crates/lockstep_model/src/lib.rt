@@ -4,7 +4,6 @@
 pub mod channels;
 pub mod code;
 pub mod effects;
-pub mod loading;
 pub mod machine;
 pub mod runs;
 pub mod timed_cores;

@@ -1,6 +1,6 @@
 use Rattle.std.proofs.Common.{◌≡◌, ◌+◌, ◌<◌, ◌≤◌, ℕ, drop, length, get_or}
-use Rattle.lockstep_model.specs.Memory.{byte_at}
-use Rattle.lockstep_model.proofs.loading.loaded_bytes.Given as goal
+use Rattle.memory_image.specs.Memory.{byte_at}
+use Rattle.memory_image.proofs.loading.loaded_bytes.Given as goal
 
 -- memory holds the segments from `left` on
 abbrev pub invariant-loop-left : goal.invariant-loop-left

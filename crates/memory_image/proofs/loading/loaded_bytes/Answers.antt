@@ -1,7 +1,7 @@
 use Rattle.std.proofs.Common.{◌≡◌, ◌+◌, ◌∙◌, ℕ, drop, ap, arith, rules}
 use Rattle.std.proofs.lemmas.List.FromFn.{fill_by_all}
-use Rattle.lockstep_model.specs.Memory.{byte_at, bytes_from}
-use Rattle.lockstep_model.proofs.loading.loaded_bytes.Goals as goal
+use Rattle.memory_image.specs.Memory.{byte_at, bytes_from}
+use Rattle.memory_image.proofs.loading.loaded_bytes.Goals as goal
 
 pub returns-clause-held : goal.returns-clause-held
 unfolding bytes_from

@@ -7,7 +7,7 @@ use Rattle.std.specs.Bool.{if◌then◌else◌}
 use borrow.Rule.Slice.PartMut.{put_mid, post_of}
 use Rattle.slack_base.specs.declared.images.Segment.{Segment}
 use Rattle.slack_base.specs.Images.{IsInMemory}
-use Rattle.lockstep_model.specs.Memory.{is_in}
+use Rattle.memory_image.specs.Memory.{is_in}
 
 module _ (a k : ℕ) (xs ys : List ℕ) (i d : ℕ) where
   pub below : length ys ≡ k → a + k ≤ length xs → i < a → get_or (put_mid a k xs ys) i d ≡ get_or xs i d

@@ -1,6 +1,6 @@
 use Rattle.std.proofs.Common.{◌≡◌, ◌+◌, ◌-◌, ◌∙◌, length, replicate, sym, refl, ap, arith, rules}
-use Rattle.lockstep_model.proofs.Segments.{length_rest, written_at}
-use Rattle.lockstep_model.proofs.loading.load.Goals as goal
+use Rattle.memory_image.proofs.Segments.{length_rest, written_at}
+use Rattle.memory_image.proofs.loading.load.Goals as goal
 
 pub returns : goal.returns
 returns c = λ k lt.

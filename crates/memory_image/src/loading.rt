@@ -1,7 +1,7 @@
 //! Loading an image into memory.
 ghost use Rattle.std.specs.Prelude.{◌≡◌, ◌+◌, ◌-◌, ◌<◌, ◌≤◌, ℕ, length, slice_index, vec_len, IfOk, if◌then◌else◌};
 ghost use Rattle.slack_base.specs.Images.{IsInMemory, Fits};
-ghost use Rattle.lockstep_model.specs.Memory.{is_in, byte_at, bytes_from};
+ghost use Rattle.memory_image.specs.Memory.{is_in, byte_at, bytes_from};
 
 use slack_base::{Image, OutOfMemory, Segment};
 use std::alloc::Global;
