@@ -42,4 +42,4 @@ pub refuses_so : (order : Result RawConfig WordFault) (config : RawConfig) → o
     → IfOk order (λ c. IfSome old (λ told. (f : ImageFault) → taken < 2 ^ 63 → length told ≤ most_bytes → image_told c told ≡ Err f → X → (answer ≡ BadImage f) ⊎ (answer ≡ OutOfMemory)))
 refuses_so order config is old now fault taken X answer e h =
     subst (λ o. IfOk o (λ c. IfSome old (λ told. (f : ImageFault) → taken < 2 ^ 63 → length told ≤ most_bytes → image_told c told ≡ Err f → X → (answer ≡ BadImage f) ⊎ (answer ≡ OutOfMemory))))
-        (sym is) (always_refuses config old now fault taken X answer e h)
+    (sym is) (always_refuses config old now fault taken X answer e h)
