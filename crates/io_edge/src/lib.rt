@@ -14,3 +14,6 @@ pub use memory_sources::MemorySource;
 pub use std_streams::{StdSink, StdSource};
 pub use streams::{CallList, Failed, Sink, Source};
 pub use whole::{ReadAllError, read_all, write_all};
+
+#[cfg(test)]
+mod tests;

@@ -1,0 +1,56 @@
+//! What no clause says: that memory serves, and that a stream goes on after a failed call.
+use crate::{Failed, MemorySink, MemorySource, ReadAllError, Sink, Source, read_all, write_all};
+use slack_base::Row;
+use std::alloc::Global;
+use std::test::Fail;
+
+fn numbers(alloc: Global, numbers: &[u64]) -> Result<Row<u64>, Fail> {
+    Ok(Row::of(Vec::from_slice(alloc, numbers)?))
+}
+
+fn source(alloc: Global, bytes: &[u8], fails: &[u64]) -> Result<MemorySource, Fail> {
+    let bytes = Row::of(Vec::from_slice(alloc, bytes)?);
+    Ok(MemorySource::make(bytes, 4, numbers(alloc, fails)?))
+}
+
+#[test]
+fn reads_all_bytes(rt: HostRuntime) -> Result<(), Fail> {
+    let alloc = rt.alloc();
+    let mut whole = source(alloc, b"a short text", &[])?;
+    let read = read_all(alloc, &mut whole, 12)?;
+    assert_eq!(rt; read.as_slice(), b"a short text".as_slice());
+    let mut long = source(alloc, b"a short text", &[])?;
+    assert_eq!(rt;
+        read_all(alloc, &mut long, 11).err(),
+        Some(ReadAllError::TooLong)
+    );
+    let mut failing = source(alloc, b"a short text", &[2])?;
+    assert_eq!(rt;
+        read_all(alloc, &mut failing, 12).err(),
+        Some(ReadAllError::Fault)
+    );
+    Ok(())
+}
+
+#[test]
+fn a_source_goes_on_after_a_fault(rt: HostRuntime) -> Result<(), Fail> {
+    let mut failing = source(rt.alloc(), b"abcdef", &[1])?;
+    let mut buffer = [0; 8];
+    assert_eq!(rt; failing.take(&mut buffer), Err(Failed));
+    assert_eq!(rt; failing.take(&mut buffer), Ok(4));
+    assert_eq!(rt; &buffer[..4], b"abcd".as_slice());
+    Ok(())
+}
+
+#[test]
+fn a_failed_write_leaves_a_front(rt: HostRuntime) -> Result<(), Fail> {
+    let alloc = rt.alloc();
+    let mut sink = MemorySink::make(alloc, 100, 4, numbers(alloc, &[3])?)?;
+    assert_eq!(rt; write_all(&mut sink, b"a short text"), Err(Failed));
+    assert_eq!(rt; sink.written(), b"a short ".as_slice());
+    assert_eq!(rt; sink.put(b"text"), Ok(4));
+    let mut small = MemorySink::make(alloc, 5, 4, numbers(alloc, &[])?)?;
+    assert_eq!(rt; write_all(&mut small, b"a short text"), Err(Failed));
+    assert_eq!(rt; small.written(), b"a sho".as_slice());
+    Ok(())
+}
