@@ -66,3 +66,6 @@ fn complain<W: Write>(stderr: &mut W, text: &[u8]) {
     let _ = stderr.write_all(text);
     let _ = stderr.write_all(b"\n");
 }
+
+#[cfg(test)]
+mod tests;
