@@ -1,5 +1,7 @@
 pub mod Checks
+pub mod Elf
 pub mod Fields
 pub mod Flat
 pub mod Layouts
+pub mod LoadChecks
 pub mod Reading

@@ -2,9 +2,11 @@
 #![tactic(auto)]
 
 mod checks;
+mod elf;
 mod fields;
 mod flat;
 mod layouts;
+mod load_checks;
 mod loads;
 pub mod reading;
 

@@ -6,6 +6,7 @@ ghost use Rattle.image_load.specs.declared.reading.ImageError.TheVariants as err
 ghost use Rattle.image_load.specs.Checks.{unless_fault};
 ghost use Rattle.image_load.specs.Reading.{fault_of, layout_of, image_of};
 
+use crate::elf::elf_layout;
 use crate::flat::flat_layout;
 use crate::layouts::{Layout, image_in};
 use slack_base::{Config, Image, ImageFault, OutOfMemory};
@@ -59,6 +60,9 @@ fn layout_of(bytes: &[u8], config: &Config) -> Result<Layout, ImageFault>
     }
     if bytes.starts_with(b"SLK1") {
         return flat_layout(bytes, config);
+    }
+    if bytes.starts_with(b"\x7fELF") {
+        return elf_layout(bytes, config);
     }
     Err(ImageFault::Magic)
 }
