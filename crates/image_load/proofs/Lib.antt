@@ -4,3 +4,4 @@ pub mod ElfSteps
 pub mod FileFits
 pub mod FlatFits
 pub mod LoadSteps
+pub mod ReadAgain

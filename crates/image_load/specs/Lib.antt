@@ -5,3 +5,4 @@ pub mod Flat
 pub mod Layouts
 pub mod LoadChecks
 pub mod Reading
+pub mod Writing

@@ -9,5 +9,7 @@ mod layouts;
 mod load_checks;
 mod loads;
 pub mod reading;
+pub mod writing;
 
 pub use reading::{ImageError, image_fault, read_image};
+pub use writing::flat_bytes;

@@ -1,9 +1,10 @@
 //! Reading an image.
-ghost use Rattle.std.specs.Prelude.{◌≡◌, ◌↔◌, ◌≤◌, Ok, Err, Some, IfOk, IsErrOf, length};
+ghost use Rattle.std.specs.Prelude.{◌≡◌, ◌↔◌, ◌≤◌, Ok, Err, Some, IfOk, IfSome, IfNone, IsErrOf, length};
 ghost use Rattle.slack_base.specs.Images.{Fits};
 ghost use Rattle.slack_base.specs.declared.faults.ImageFault.{ImageFault};
 ghost use Rattle.image_load.specs.declared.reading.ImageError.TheVariants as errors;
 ghost use Rattle.image_load.specs.Checks.{unless_fault};
+ghost use Rattle.image_load.specs.Layouts.{image_in};
 ghost use Rattle.image_load.specs.Reading.{fault_of, layout_of, image_of};
 
 use crate::elf::elf_layout;
@@ -43,8 +44,11 @@ pub fn read_image(alloc: Global, bytes: &[u8], config: &Config) -> Result<Image,
 }
 
 /// The first fault of a file, if it has one. It takes no memory.
+#[tactic(auto, unfolding(crate::specs::Reading::image_of))]
 pub fn image_fault(bytes: &[u8], config: &Config) -> Option<ImageFault>
-    ensures { result ≡ fault_of config.now.base config.now.memory bytes.now }
+    ensures first { result ≡ fault_of config.now.base config.now.memory bytes.now }
+    ensures refused { IfSome result (λ fault. image_of config.now.base config.now.memory bytes.now ≡ Err fault) }
+    ensures accepted { IfNone result (image_of config.now.base config.now.memory bytes.now ≡ Ok (image_in bytes.now (layout_of bytes.now))) }
 {
     layout_of(bytes, config).err()
 }
@@ -66,3 +70,6 @@ fn layout_of(bytes: &[u8], config: &Config) -> Result<Layout, ImageFault>
     }
     Err(ImageFault::Magic)
 }
+
+#[cfg(test)]
+mod tests;
