@@ -1,16 +1,14 @@
 -- An SLK1 file is read as the image that it was made of.
-use Rattle.std.proofs.Common.{◌≡◌, ℕ, ◌+◌, ◌^◌, ◌%◌, ◌<◌, ◌≤◌, Bool, true, false, cond, List, [], ◌∷◌, ◌++◌, Some, None, Ok, refl, sym, ap, ◌∙◌, arith, length, take, drop, nat_le, nat_lt, eqb, ◌||◌, ◌&&◌}
-use Rattle.std.specs.List.{All}
+use Rattle.std.proofs.Common.{◌≡◌, ℕ, ◌+◌, ◌^◌, ◌<◌, Bool, true, false, cond, List, [], ◌∷◌, ◌++◌, Some, None, Ok, refl, ap, ◌∙◌, arith, length, nat_le, nat_lt, eqb, ◌||◌}
 use Rattle.std.proofs.Math.Seq.{take-length}
 use Rattle.std.proofs.lemmas.Bool.Decides.{nat_tests}
 use Rattle.std.proofs.lemmas.List.Elements.{All-head}
 use Rattle.byteorder.specs.Endian.{little_bytes}
 use Rattle.byteorder.specs.Numbers.{little_number-reads_back}
-use Rattle.slack_base.specs.declared.images.Segment.{Segment}
 use Rattle.slack_base.specs.declared.images.Image.{Image}
 use Rattle.slack_base.specs.declared.faults.ImageFault.{ImageFault}
 use Rattle.slack_base.specs.declared.faults.ImageFault.TheVariants.{Short, Magic, Outside, Entry}
-use Rattle.slack_base.specs.Images.{IsInMemory, IsWordOf, Fits}
+use Rattle.slack_base.specs.Images.{IsInMemory, Fits}
 use Rattle.image_load.specs.declared.flat.FlatHeader.{FlatHeader}
 use Rattle.image_load.specs.Fields.{u32_at}
 use Rattle.image_load.specs.Checks.{Check, first_fault, unless_fault, is_in_memory, is_word_of}

@@ -1,5 +1,5 @@
 //! The format ELF32, as far as its program headers.
-ghost use Rattle.std.specs.Prelude.{◌≡◌, ◌+◌, ◌*◌, ◌<◌, ◌≤◌, [], length, IfOk, slice_index};
+ghost use Rattle.std.specs.Prelude.{◌≡◌, ◌+◌, ◌<◌, ◌≤◌, [], length, IfOk};
 ghost use Rattle.image_load.specs.Checks.{first_fault, unless_fault};
 ghost use Rattle.image_load.specs.LoadChecks.{load_checks};
 ghost use Rattle.image_load.specs.Elf.{elf_header, program_header, program_headers, is_load, loads_of, is_executable, headers_end, header_checks, elf_layout, elf_checks};

@@ -1,5 +1,5 @@
 //! Reading an image.
-ghost use Rattle.std.specs.Prelude.{◌≡◌, ◌↔◌, ◌≤◌, Ok, Err, Some, IfOk, IfSome, IfNone, IsErrOf, length};
+ghost use Rattle.std.specs.Prelude.{◌≡◌, ◌↔◌, Ok, Err, Some, IfOk, IfSome, IfNone, IsErrOf};
 ghost use Rattle.slack_base.specs.Images.{Fits};
 ghost use Rattle.slack_base.specs.declared.faults.ImageFault.{ImageFault};
 ghost use Rattle.image_load.specs.declared.reading.ImageError.TheVariants as errors;
@@ -11,7 +11,7 @@ use crate::elf::elf_layout;
 use crate::flat::flat_layout;
 use crate::layouts::{Layout, image_in};
 use slack_base::{Config, Image, ImageFault, OutOfMemory};
-use std::alloc::{AllocError, AllocFailed, Global};
+use std::alloc::Global;
 use thiserror::Error;
 
 /// Why an image was not read.

@@ -1,6 +1,7 @@
 use super::*;
 use crate::writing::flat_bytes;
 use slack_base::{ByteList, RawConfig, Segment, SegmentList};
+use std::alloc::AllocError;
 use std::test::Fail;
 
 /// Three instructions: the service number of an exit, the code 0, and the call.

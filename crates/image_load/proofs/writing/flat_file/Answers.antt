@@ -1,4 +1,4 @@
-use Rattle.std.proofs.Common.{◌≡◌, ◌^◌, ◌<◌, Ok, arith, rules, sym, subst, length}
+use Rattle.std.proofs.Common.{◌≡◌, Ok, arith, rules, sym, subst}
 use Rattle.image_load.specs.Flat.{flat_file}
 use Rattle.image_load.specs.Reading.{image_of}
 use Rattle.image_load.specs.Writing.{one_piece}
