@@ -1,13 +1,14 @@
 -- What follows where no check fails.
-use Rattle.std.proofs.Common.{◌≡◌, ℕ, ◌+◌, ◌≤◌, true, false, cond, List, [], ◌∷◌, Some, None, refl, arith, length-take, drop, map}
+use Rattle.std.proofs.Common.{◌≡◌, ℕ, ◌+◌, ◌≤◌, true, false, cond, List, [], ◌∷◌, ◌++◌, Option, Some, None, Ok, Err, refl, arith, length-take, drop, map}
 use Rattle.std.specs.List.{All, AllPairs, AllByRecursion}
 use Rattle.std.proofs.lemmas.Bool.Decides.{nat_tests}
 use Rattle.std.proofs.lemmas.List.Elements.{All-nil, All-cons}
 use Rattle.std.proofs.lemmas.List.Kept.{AllPairs-cons}
+use Rattle.slack_base.specs.declared.faults.ImageFault.{ImageFault}
 use Rattle.slack_base.specs.Images.{IsInMemory, IsApart, IsWordOf, Fits}
 use Rattle.image_load.specs.declared.layouts.Load.{Load}
 use Rattle.image_load.specs.declared.layouts.Layout.{Layout}
-use Rattle.image_load.specs.Checks.{Check, first_fault, is_in_memory, is_word_of}
+use Rattle.image_load.specs.Checks.{Check, first_fault, unless_fault, is_in_memory, is_word_of}
 use Rattle.image_load.specs.Layouts.{segment_of, image_in}
 
 -- the first of checks that all hold, and the others
@@ -15,6 +16,40 @@ pub none_failed : (check : Check) (checks : List Check) → first_fault (check �
 none_failed check checks h =
     elim (check.0) as (λ b. cond b (first_fault checks) (Some check.1) ≡ None → (b ≡ true) × (first_fault checks ≡ None)) [
       | true ↦ λ e. (refl, e)
+      | false ↦ λ e. absurd cc
+    ] h
+
+-- what was accepted, and what was refused
+pub accepted : {X : Type 0} (o : Option ImageFault) (x y : X) → unless_fault o x ≡ Ok y → (o ≡ None) × (x ≡ y)
+accepted None x y h = (refl, cc)
+accepted (Some f) x y h = absurd cc
+
+pub refused : {X : Type 0} (o : Option ImageFault) (x : X) (f : ImageFault) → unless_fault o x ≡ Err f → o ≡ Some f
+refused None x f h = absurd cc
+refused (Some g) x f h = cc
+
+-- checks behind others
+pub passed : (a b : List Check) → first_fault a ≡ None → first_fault (a ++ b) ≡ first_fault b
+passed [] b h = refl
+passed (check ∷ a) b h =
+    elim (check.0) as (λ t. cond t (first_fault a) (Some check.1) ≡ None → cond t (first_fault (a ++ b)) (Some check.1) ≡ first_fault b) [
+      | true ↦ λ e. passed a b e
+      | false ↦ λ e. absurd cc
+    ] h
+
+pub found : (a b : List Check) (f : ImageFault) → first_fault a ≡ Some f → first_fault (a ++ b) ≡ Some f
+found [] b f h = absurd cc
+found (check ∷ a) b f h =
+    elim (check.0) as (λ t. cond t (first_fault a) (Some check.1) ≡ Some f → cond t (first_fault (a ++ b)) (Some check.1) ≡ Some f) [
+      | true ↦ λ e. found a b f e
+      | false ↦ λ e. e
+    ] h
+
+pub all_passed : (a b : List Check) → first_fault (a ++ b) ≡ None → (first_fault a ≡ None) × (first_fault b ≡ None)
+all_passed [] b h = (refl, h)
+all_passed (check ∷ a) b h =
+    elim (check.0) as (λ t. cond t (first_fault (a ++ b)) (Some check.1) ≡ None → (cond t (first_fault a) (Some check.1) ≡ None) × (first_fault b ≡ None)) [
+      | true ↦ λ e. all_passed a b e
       | false ↦ λ e. absurd cc
     ] h
 

@@ -1,31 +1,36 @@
 -- The image of a file without a fault fits.
-use Rattle.std.proofs.Common.{◌≡◌, ℕ, true, false, cond, List, Option, Some, None, Ok, refl, subst, length, nat_lt}
-use Rattle.slack_base.specs.declared.faults.ImageFault.{ImageFault}
+use Rattle.std.proofs.Common.{◌≡◌, ℕ, true, false, cond, List, Some, None, Ok, subst, length, nat_lt}
 use Rattle.slack_base.specs.declared.faults.ImageFault.TheVariants.{Short, Magic}
 use Rattle.slack_base.specs.declared.images.Image.{Image}
 use Rattle.slack_base.specs.Images.{Fits}
-use Rattle.image_load.specs.Checks.{first_fault, unless_fault}
+use Rattle.image_load.specs.Checks.{first_fault}
+use Rattle.image_load.specs.Elf.{is_elf, elf_header, elf_checks, elf_layout}
 use Rattle.image_load.specs.Flat.{is_flat, flat_header, flat_checks, flat_layout}
 use Rattle.image_load.specs.Layouts.{image_in}
 use Rattle.image_load.specs.Reading.{fault_of, layout_of, image_of}
-use Rattle.image_load.proofs.Accepted.{IsLoadableLayout, image_fits}
+use Rattle.image_load.proofs.Accepted.{accepted, IsLoadableLayout, image_fits}
+use Rattle.image_load.proofs.ElfFits.{elf_loadable}
 use Rattle.image_load.proofs.FlatFits.{flat_loadable}
 
 layout_loadable : (base memory : ℕ) (bytes : List ℕ) → fault_of base memory bytes ≡ None → IsLoadableLayout base memory (layout_of bytes)
 unfolding fault_of layout_of
 layout_loadable base memory bytes =
-    elim (nat_lt (length bytes) 4) as (λ short. cond short (Some (Short (length bytes) 4)) (cond (is_flat bytes) (first_fault (flat_checks base memory bytes)) (Some Magic)) ≡ None → IsLoadableLayout base memory (flat_layout (flat_header bytes))) [
+    let flat = flat_layout (flat_header bytes) in
+    let elf = elf_layout bytes (elf_header bytes) in
+    let flat_fault = first_fault (flat_checks base memory bytes) in
+    let elf_fault = cond (is_elf bytes) (first_fault (elf_checks base memory bytes)) (Some Magic) in
+    elim (nat_lt (length bytes) 4) as (λ short. cond short (Some (Short (length bytes) 4)) (cond (is_flat bytes) flat_fault elf_fault) ≡ None → IsLoadableLayout base memory (cond (is_flat bytes) flat elf)) [
       | true ↦ λ h. absurd cc
       | false ↦
-          elim (is_flat bytes) as (λ flat. cond flat (first_fault (flat_checks base memory bytes)) (Some Magic) ≡ None → IsLoadableLayout base memory (flat_layout (flat_header bytes))) [
+          elim (is_flat bytes) as (λ b. cond b flat_fault elf_fault ≡ None → IsLoadableLayout base memory (cond b flat elf)) [
             | true ↦ flat_loadable base memory bytes
-            | false ↦ λ h. absurd cc
+            | false ↦
+                elim (is_elf bytes) as (λ b. cond b (first_fault (elf_checks base memory bytes)) (Some Magic) ≡ None → IsLoadableLayout base memory elf) [
+                  | true ↦ elf_loadable base memory bytes
+                  | false ↦ λ h. absurd cc
+                ]
           ]
     ]
-
-accepted : {X : Type 0} (o : Option ImageFault) (x y : X) → unless_fault o x ≡ Ok y → (o ≡ None) × (x ≡ y)
-accepted None x y h = (refl, cc)
-accepted (Some f) x y h = absurd cc
 
 -- every image that a file gives fits
 pub read_fits : (base memory : ℕ) (bytes : List ℕ) (image : Image) → image_of base memory bytes ≡ Ok image → Fits base memory image

@@ -5,6 +5,7 @@ use Rattle.slack_base.specs.declared.faults.ImageFault.{ImageFault}
 use Rattle.slack_base.specs.declared.faults.ImageFault.TheVariants.{Short, Magic}
 use Rattle.image_load.specs.declared.layouts.Layout.{Layout}
 use Rattle.image_load.specs.Checks.{first_fault, unless_fault}
+use Rattle.image_load.specs.Elf.{is_elf, elf_header, elf_checks, elf_layout}
 use Rattle.image_load.specs.Flat.{is_flat, flat_header, flat_checks, flat_layout}
 use Rattle.image_load.specs.Layouts.{image_in}
 
@@ -13,11 +14,12 @@ unfoldable pub fault_of : (base memory : ℕ) → List ℕ → Option ImageFault
 fault_of base memory bytes =
     if nat_lt (length bytes) 4 then Some (Short (length bytes) 4)
     else if is_flat bytes then first_fault (flat_checks base memory bytes)
+    else if is_elf bytes then first_fault (elf_checks base memory bytes)
     else Some Magic
 
 -- what a file says of the image, where it has no fault
 unfoldable pub layout_of : List ℕ → Layout
-layout_of bytes = flat_layout (flat_header bytes)
+layout_of bytes = if is_flat bytes then flat_layout (flat_header bytes) else elf_layout bytes (elf_header bytes)
 
 -- the image of a file for a memory of so many bytes from base on, or the file's first fault
 unfoldable pub image_of : (base memory : ℕ) → List ℕ → Result Image ImageFault

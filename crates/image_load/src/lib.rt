@@ -2,10 +2,14 @@
 #![tactic(auto)]
 
 mod checks;
+mod elf;
 mod fields;
 mod flat;
 mod layouts;
+mod load_checks;
 mod loads;
 pub mod reading;
+pub mod writing;
 
 pub use reading::{ImageError, image_fault, read_image};
+pub use writing::flat_bytes;

@@ -1,5 +1,5 @@
 //! The pieces of memory that a file loads: as many as an image may have.
-ghost use Rattle.std.specs.Prelude.{◌≡◌, ◌<◌, ◌↔◌, [], ◌∷◌, ◌++◌, length, IsTrue};
+ghost use Rattle.std.specs.Prelude.{◌≡◌, ◌<◌, [], ◌∷◌, ◌++◌, length};
 
 use crate::layouts::Load;
 use std::marker::Model;
@@ -15,14 +15,14 @@ pub struct Loads {
 }
 
 impl Model for Loads {
-    ghost use Rattle.std.specs.Prelude.{◌≡◌, List, ◌≤◌, take, length};
+    ghost use Rattle.std.specs.Prelude.{List, ◌≤◌, take};
     ghost use Rattle.image_load.specs.declared.layouts.Load.{Load};
 
     ghost Value = { List Load };
 
     ghost view = { λ l. take l.count l.items };
 
-    ghost invariant = { λ l. (l.count ≤ 64) × (length l.items ≡ 64) };
+    ghost invariant = { λ l. l.count ≤ 64 };
 }
 
 impl Loads {
@@ -41,13 +41,6 @@ impl Loads {
             items: [none; MOST_LOADS],
             count: 0,
         }
-    }
-
-    /// Whether there are as many pieces as an image may have.
-    pub fn is_full(&self) -> bool
-        ensures { IsTrue result ↔ (length self.now ≡ 64) }
-    {
-        self.count == MOST_LOADS
     }
 
     /// The pieces.

@@ -1,15 +1,17 @@
 //! Reading an image.
-ghost use Rattle.std.specs.Prelude.{◌≡◌, ◌↔◌, ◌≤◌, Ok, Err, Some, IfOk, IsErrOf, length};
+ghost use Rattle.std.specs.Prelude.{◌≡◌, ◌↔◌, Ok, Err, Some, IfOk, IfSome, IfNone, IsErrOf};
 ghost use Rattle.slack_base.specs.Images.{Fits};
 ghost use Rattle.slack_base.specs.declared.faults.ImageFault.{ImageFault};
 ghost use Rattle.image_load.specs.declared.reading.ImageError.TheVariants as errors;
 ghost use Rattle.image_load.specs.Checks.{unless_fault};
+ghost use Rattle.image_load.specs.Layouts.{image_in};
 ghost use Rattle.image_load.specs.Reading.{fault_of, layout_of, image_of};
 
+use crate::elf::elf_layout;
 use crate::flat::flat_layout;
 use crate::layouts::{Layout, image_in};
 use slack_base::{Config, Image, ImageFault, OutOfMemory};
-use std::alloc::{AllocError, AllocFailed, Global};
+use std::alloc::Global;
 use thiserror::Error;
 
 /// Why an image was not read.
@@ -42,8 +44,11 @@ pub fn read_image(alloc: Global, bytes: &[u8], config: &Config) -> Result<Image,
 }
 
 /// The first fault of a file, if it has one. It takes no memory.
+#[tactic(auto, unfolding(crate::specs::Reading::image_of))]
 pub fn image_fault(bytes: &[u8], config: &Config) -> Option<ImageFault>
-    ensures { result ≡ fault_of config.now.base config.now.memory bytes.now }
+    ensures first { result ≡ fault_of config.now.base config.now.memory bytes.now }
+    ensures refused { IfSome result (λ fault. image_of config.now.base config.now.memory bytes.now ≡ Err fault) }
+    ensures accepted { IfNone result (image_of config.now.base config.now.memory bytes.now ≡ Ok (image_in bytes.now (layout_of bytes.now))) }
 {
     layout_of(bytes, config).err()
 }
@@ -60,5 +65,11 @@ fn layout_of(bytes: &[u8], config: &Config) -> Result<Layout, ImageFault>
     if bytes.starts_with(b"SLK1") {
         return flat_layout(bytes, config);
     }
+    if bytes.starts_with(b"\x7fELF") {
+        return elf_layout(bytes, config);
+    }
     Err(ImageFault::Magic)
 }
+
+#[cfg(test)]
+mod tests;
