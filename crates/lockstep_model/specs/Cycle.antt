@@ -1,11 +1,10 @@
 -- One cycle of a machine, and lockstep: one cycle after another. What a tick of a core and the serving of an ask do
 -- are rules that the machine brings along.
-use Rattle.std.specs.Prelude.{◌≡◌, ℕ, ◌+◌, ◌==◌, ◌&&◌, ◌||◌, Bool, true, List, [], ◌∷◌, ◌++◌, map, filter, nat_le, nat_lt, zero, suc, if◌then◌else◌}
+use Rattle.std.specs.Prelude.{◌≡◌, ℕ, ◌+◌, Bool, List, [], ◌∷◌, ◌++◌, map, filter, nat_le, nat_lt, zero, suc, if◌then◌else◌}
 use Rattle.std.specs.List.{flat_map, list_all}
-use Rattle.std.specs.Ordering.{is_gt}
 use Rattle.slack_base.specs.declared.messages.Ask.{Ask}
 use Rattle.slack_base.specs.declared.messages.Post.{Post}
-use Rattle.slack_base.specs.Stamps.{id_cmp}
+use Rattle.stamp_queue.specs.Inbox.{with_post}
 
 -- a core: all that its ticks read and change, and the posts that wait for it, in order of (due, id)
 pub record CoreValue (Inner : Type 0) : Type 0 where
@@ -33,15 +32,6 @@ abbrev pub changed_at : {X Y : Type 0} → ℕ → (X → X × List Y) → List 
 changed_at n f [] = ([], [])
 changed_at zero f (x ∷ xs) = ((f x).0 ∷ xs, (f x).1)
 changed_at (suc n) f (x ∷ xs) = (x ∷ (changed_at n f xs).0, (changed_at n f xs).1)
-
--- the post comes later than the other, by (due, id)
-abbrev pub is_later : Post → Post → Bool
-is_later q p = nat_lt p.due q.due || ((p.due == q.due) && is_gt (id_cmp q.id p.id))
-
--- the inbox with one more post, behind those that are no later
-abbrev pub with_post : List Post → Post → List Post
-with_post [] p = p ∷ []
-with_post (q ∷ inbox) p = if is_later q p then p ∷ q ∷ inbox else q ∷ with_post inbox p
 
 module _ {Inner Chan : Type 0} (rules : Rules Inner Chan) where
   -- a tick at clock t takes the due posts out of the inbox
