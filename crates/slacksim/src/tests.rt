@@ -1,4 +1,6 @@
 //! Runs over streams in memory: what no clause says, with expected texts written down from the rules by hand.
+ghost use Rattle.std.specs.Prelude.{◌<◌};
+
 use crate::answers::{Answer, Finish};
 use crate::faults::fault_text;
 use crate::simulation::simulate;
@@ -14,11 +16,14 @@ mod words;
 
 /// An SLK1 file of these words from address 0 on, where it is entered.
 pub fn flat(alloc: Global, words: &[u32]) -> Result<Vec<u8>, Fail> {
-    let mut bytes = Vec::from_slice(alloc, b"SLK1\0\0\0\0\0\0\0\0")?;
-    bytes.extend_from_slice(&(4 * (words.len() as u32 & 0xffff)).to_le_bytes())?;
+    let mut code = Vec::new(alloc);
     for word in words {
-        bytes.extend_from_slice(&word.to_le_bytes())?;
+        code.extend_from_slice(&word.to_le_bytes())?;
     }
+    let size = u32::try_from(code.len())?;
+    let mut bytes = Vec::from_slice(alloc, b"SLK1\0\0\0\0\0\0\0\0")?;
+    bytes.extend_from_slice(&size.to_le_bytes())?;
+    bytes.extend_from_slice(code.as_slice())?;
     Ok(bytes)
 }
 
