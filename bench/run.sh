@@ -1,17 +1,23 @@
 #!/usr/bin/env bash
-# Times the built program on a loop of ten instructions that never ends, up to the default limit of 1,000,000 cycles,
-# and prints simulated core-cycles a second and the peak memory. It is a measurement and no test.
+# Times the built program on two loops that never end, up to the default limit of 1,000,000 cycles: one of ten integer
+# instructions, and one of multiplications and divisions. It prints simulated core-cycles a second and the peak memory.
+# It is a measurement and no test.
 set -eu
 top=$(cd "$(dirname "${BASH_SOURCE[0]}")/.." && pwd)
-"$top/slacksim" run <"$top/examples/exit.slk1" >/dev/null
-printf '%-6s %12s %10s %18s %10s\n' cores core-cycles seconds core-cycles/s peak-KB
-for cores in 1 2 4 8; do
-    best=
+
+# The seconds and the kilobytes of the fastest of three runs.
+fastest() {
     for _ in 1 2 3; do
-        measured=$( { /usr/bin/time -f '%e %M' "$top/slacksim" run --cores "$cores" <"$top/bench/loop.slk1" >/dev/null; } 2>&1 | tail -n 1 )
-        seconds=${measured% *}
-        memory=${measured#* }
-        if [ -z "$best" ] || awk "BEGIN { exit !($seconds < $best) }"; then best=$seconds; fi
+        { /usr/bin/time -f '%e %M' "$top/slacksim" run --cores "$2" <"$top/bench/$1.slk1" >/dev/null; } 2>&1 | tail -n 1
+    done | sort -n | head -n 1
+}
+
+"$top/slacksim" run <"$top/examples/exit.slk1" >/dev/null
+printf '%-10s %6s %12s %8s %15s %8s\n' loop cores core-cycles seconds core-cycles/s peak-KB
+for loop in loop products; do
+    for cores in 1 2 4 8; do
+        read -r seconds memory <<<"$(fastest "$loop" "$cores")"
+        awk -v l="$loop" -v c="$cores" -v s="$seconds" -v m="$memory" \
+            'BEGIN { n = c * 1000000; if (s == 0) s = 0.01; printf "%-10s %6d %12d %8.2f %15.0f %8d\n", l, c, n, s, n / s, m }'
     done
-    awk -v c="$cores" -v s="$best" -v m="$memory" 'BEGIN { n = c * 1000000; printf "%-6d %12d %10.2f %18.0f %10d\n", c, n, s, n / s, m }'
 done
