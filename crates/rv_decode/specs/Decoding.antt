@@ -1,5 +1,5 @@
--- What the decoder answers, by choices on the fields of a word. That it is what the table says is proved: no other
--- crate need read this file.
+-- What a word stands for, as a function, by choices on its fields. That it is what the table of Encodes.antt says is
+-- proved as a law, `the_table`.
 use Rattle.std.specs.Prelude.{ℕ, List, [], ◌∷◌, Option, Some, None, ◌==◌, ◌&&◌, if◌then◌else◌}
 use Rattle.std.specs.List.{find}
 use Rattle.std.specs.Option.{option_map, option_or}

@@ -1,8 +1,15 @@
 //! What holds of the table of instructions as a whole.
-ghost use Rattle.std.specs.Prelude.{◌≡◌, ℕ, ◌^◌, ◌<◌};
+ghost use Rattle.std.specs.Prelude.{◌≡◌, ℕ, ◌^◌, ◌<◌, Some};
 ghost use Rattle.slack_base.specs.declared.instructions.Instr.{Instr};
+ghost use Rattle.rv_decode.specs.Decoding.{instr_of};
 ghost use Rattle.rv_decode.specs.Encodes.{Encodes};
 ghost use Rattle.rv_decode.specs.Ranges.{IsInRange};
+
+/// What a word stands for as a function, which the definition of a machine cites, is what the table says.
+pub fn the_table()
+    ensures found { (word : ℕ) (i : Instr) → instr_of word ≡ Some i → Encodes word i }
+    ensures only { (word : ℕ) (i : Instr) → Encodes word i → instr_of word ≡ Some i }
+{}
 
 /// A word stands for one instruction at most.
 pub fn one_instruction()
