@@ -1,13 +1,11 @@
 -- A cycle of a machine whose one channel is the console, which sends no posts.
-use Rattle.std.proofs.Common.{◌≡◌, ℕ, ◌+◌, ◌-◌, ◌<◌, ◌≤◌, List, [], ◌∷◌, ◌++◌, map, take, drop, length, get_or, set, sym, refl, ap, ◌∙◌, subst, arith, append_assoc}
+use Rattle.std.proofs.Common.{◌≡◌, ℕ, ◌+◌, List, [], ◌∷◌, ◌++◌, map, take, length, get_or, set, sym, refl, ap, ◌∙◌, arith}
 use Rattle.std.specs.List.{flat_map, fold}
 use Rattle.std.proofs.lemmas.List.{take_all, drop_all, append-nil, length-map, length-set}
 use Rattle.slack_base.specs.Lending.{replaced}
 use Rattle.slack_base.specs.declared.messages.Ask.{Ask}
-use Rattle.slack_base.specs.declared.messages.Ask.TheVariants.{Read, ReadOwn, WriteBack, Flush, Put}
-use Rattle.slack_base.specs.declared.messages.Post.{Post}
 use Rattle.lockstep_model.specs.Code.{CodeValue}
-use Rattle.lockstep_model.specs.Cycle.{State, CoreValue, cycle, tick_of, asks_of, through, delivered}
+use Rattle.lockstep_model.specs.Cycle.{cycle, tick_of, asks_of, through, delivered}
 use Rattle.lockstep_model.specs.Machine.{rules_of, bare, put_on}
 use Rattle.lockstep_model.specs.Ticks.{Inner, tick}
 

@@ -1,5 +1,5 @@
 -- Lockstep, cycle by cycle.
-use Rattle.std.proofs.Common.{◌≡◌, ℕ, ◌+◌, sym, refl, ap, ◌∙◌, zero, suc, add-one, add-zero, add-suc}
+use Rattle.std.proofs.Common.{◌≡◌, ℕ, ◌+◌, sym, ap, ◌∙◌, zero, suc, add-one, add-zero, add-suc}
 use Rattle.lockstep_model.specs.Cycle.{Rules, State, cycle, lockstep}
 
 module _ {Inner Chan : Type 0} (rules : Rules Inner Chan) (s : State Inner Chan) where

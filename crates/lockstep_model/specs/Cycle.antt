@@ -1,6 +1,6 @@
 -- One cycle of a machine, and lockstep: one cycle after another. What a tick of a core and the serving of an ask do
 -- are rules that the machine brings along.
-use Rattle.std.specs.Prelude.{◌≡◌, ℕ, ◌+◌, Bool, List, [], ◌∷◌, ◌++◌, map, filter, nat_le, nat_lt, zero, suc, if◌then◌else◌}
+use Rattle.std.specs.Prelude.{ℕ, ◌+◌, Bool, List, [], ◌∷◌, ◌++◌, map, filter, nat_le, nat_lt, zero, suc}
 use Rattle.std.specs.List.{flat_map, list_all}
 use Rattle.slack_base.specs.declared.messages.Ask.{Ask}
 use Rattle.slack_base.specs.declared.messages.Post.{Post}

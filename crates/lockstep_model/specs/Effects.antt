@@ -1,10 +1,9 @@
 -- What an instruction does, as its page of the manual says (RISC-V Unprivileged ISA 20191213, chapters 2, 7 and 8).
-use Rattle.std.specs.Prelude.{ℕ, ◌+◌, ◌-◌, ◌*◌, ◌%◌, ◌^◌, ◌==◌, ◌<◌, ℤ, List, slice_index, if◌then◌else◌}
+use Rattle.std.specs.Prelude.{ℕ, ◌+◌, ◌-◌, ◌*◌, ◌%◌, ◌^◌, ◌==◌, ◌<◌, List, slice_index, if◌then◌else◌}
 use Rattle.slack_base.specs.declared.instructions.Instr.{Instr}
 use Rattle.slack_base.specs.declared.instructions.Instr.TheVariants.{Lui, Auipc, Jal, Jalr, Branch as BranchInstr, Load, Store, Imm, Shift, Reg, Lr, Sc, Amo, Fence, Ecall, Ebreak}
 use Rattle.slack_base.specs.declared.instructions.RegOp.{RegOp}
 use Rattle.slack_base.specs.declared.instructions.RegOp.TheVariants.{Mul, Mulh, Mulhsu, Mulhu, Div, Divu, Rem, Remu}
-use Rattle.slack_base.specs.declared.cores.Trap.{Trap}
 use Rattle.slack_base.specs.declared.cores.Trap.TheVariants.{Target, Break, Unbuilt}
 use Rattle.slack_base.specs.Operations.{reg_op_of, reg_op_of_shift}
 use Rattle.rv_exec.specs.Words.{word_of}

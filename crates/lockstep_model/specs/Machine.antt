@@ -1,9 +1,8 @@
 -- The machine: its rules, and its state before the first cycle.
-use Rattle.std.specs.Prelude.{ℕ, ◌+◌, ◌-◌, ◌*◌, ◌%◌, ◌^◌, Bool, not, List, [], ◌∷◌, ◌++◌, map, replicate, slice_set}
+use Rattle.std.specs.Prelude.{ℕ, ◌+◌, ◌-◌, ◌*◌, ◌%◌, ◌^◌, not, List, [], ◌∷◌, ◌++◌, map, replicate, slice_set}
 use Rattle.std.specs.List.{range_with_len}
 use Rattle.slack_base.specs.declared.messages.Ask.{Ask}
 use Rattle.slack_base.specs.declared.messages.Ask.TheVariants.{Put}
-use Rattle.slack_base.specs.declared.messages.Post.{Post}
 use Rattle.slack_base.specs.declared.cores.CoreEnd.TheVariants.{Running}
 use Rattle.slack_base.specs.declared.limits.RawConfig.{RawConfig}
 use Rattle.slack_base.specs.declared.images.Image.{Image}

@@ -1,8 +1,7 @@
 -- A tick of a core.
-use Rattle.std.specs.Prelude.{ℕ, ◌+◌, ◌-◌, ◌%◌, ◌^◌, ◌==◌, ◌≤◌, Bool, true, false, List, [], ◌∷◌, Option, Some, None, min, nat_lt, slice_index, slice_set, if◌then◌else◌}
+use Rattle.std.specs.Prelude.{ℕ, ◌+◌, ◌-◌, ◌%◌, ◌^◌, ◌==◌, ◌≤◌, Bool, true, false, List, [], ◌∷◌, Option, Some, None, min, slice_index, slice_set, if◌then◌else◌}
 use Rattle.slack_base.specs.declared.messages.Ask.{Ask}
 use Rattle.slack_base.specs.declared.messages.Ask.TheVariants.{Put}
-use Rattle.slack_base.specs.declared.messages.Post.{Post}
 use Rattle.slack_base.specs.declared.cores.CoreEnd.{CoreEnd}
 use Rattle.slack_base.specs.declared.cores.CoreEnd.TheVariants.{Running, Exit, Trapped}
 use Rattle.slack_base.specs.declared.cores.Trap.{Trap}

@@ -1,4 +1,4 @@
-use Rattle.std.proofs.Common.{◌≡◌, ◌∙◌, not, ap}
+use Rattle.std.proofs.Common.{◌∙◌, not, ap}
 use Rattle.std.specs.List.{list_all}
 use Rattle.lockstep_model.specs.Ticks.{is_running}
 use Rattle.lockstep_model.proofs.AllEnded.{all_bare}

@@ -1,4 +1,4 @@
-use Rattle.std.proofs.Common.{◌≡◌, ◌-◌, ◌+◌, ◌≤◌, ◌∙◌, min, sym, ap, refl, arith, rules}
+use Rattle.std.proofs.Common.{◌-◌, ◌∙◌, sym, ap, refl, arith, rules}
 use Rattle.lockstep_model.specs.Cycle.{lockstep}
 use Rattle.lockstep_model.specs.Machine.{rules_of}
 use Rattle.lockstep_model.specs.Views.{state_of}
