@@ -1,5 +1,5 @@
 -- How far a source was read.
-use Rattle.std.proofs.Common.{◌≡◌, ℕ, ◌+◌, ◌-◌, ◌<◌, ◌≤◌, List, [], ◌∷◌, ◌++◌, Option, Some, None, IfSome, take, drop, length, refl, sym, ap, ◌∙◌, subst, append_assoc, arith, rules, length-append}
+use Rattle.std.proofs.Common.{◌≡◌, ℕ, ◌+◌, ◌≤◌, List, [], ◌++◌, Option, Some, None, IfSome, take, drop, length, refl, sym, ap, ◌∙◌, subst, append_assoc, arith, length-append}
 use Rattle.std.proofs.lemmas.List.{take-append-drop, append-nil, length-take-le, drop_at}
 use Rattle.io_edge.specs.Streams.{MovesFirst}
 use Rattle.io_edge.specs.Whole.{IsFront}

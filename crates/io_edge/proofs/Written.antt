@@ -1,5 +1,5 @@
 -- How far a text was written.
-use Rattle.std.proofs.Common.{◌≡◌, ℕ, ◌+◌, ◌-◌, ◌<◌, ◌≤◌, List, [], ◌∷◌, ◌++◌, Option, Some, None, take, drop, length, refl, sym, ap, ◌∙◌, append_assoc, arith, take-add}
+use Rattle.std.proofs.Common.{◌≡◌, ℕ, ◌+◌, ◌-◌, List, [], ◌++◌, Option, Some, None, take, drop, length, refl, sym, ap, ◌∙◌, append_assoc, take-add}
 use Rattle.std.proofs.lemmas.List.{append-nil, take_rest}
 use Rattle.io_edge.specs.Streams.{with_after}
 

@@ -1,6 +1,6 @@
 -- What a call of a source or a sink does to the bytes that it tells. One that tells none before a call tells none
 -- after it.
-use Rattle.std.specs.Prelude.{ℕ, ◌≡◌, ◌<◌, ◌≤◌, List, [], ◌++◌, Option, Some, None, take, drop, length, MatchOption}
+use Rattle.std.specs.Prelude.{ℕ, ◌≡◌, ◌<◌, ◌≤◌, List, [], ◌++◌, Option, Some, None, take, drop, length}
 
 -- the first n bytes that were left stand at the front of the buffer, and the others are left; n is 0 exactly where
 -- none was left

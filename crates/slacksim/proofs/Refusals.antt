@@ -1,5 +1,5 @@
 -- What is said of an image that is refused.
-use Rattle.std.proofs.Common.{◌≡◌, ℕ, ◌<◌, ◌≤◌, ◌^◌, ◌⊎◌, inl, List, [], Option, Some, None, Result, Ok, Err, IfSome, IsOk, length, sym, ap, ◌∙◌, subst}
+use Rattle.std.proofs.Common.{◌≡◌, ℕ, ◌<◌, ◌≤◌, ◌^◌, ◌⊎◌, inl, List, Option, Some, None, Result, Ok, Err, IfSome, IsOk, length, sym, ap, ◌∙◌, subst}
 use Rattle.std.specs.Result.{IfOk, IsOkAnd}
 use Rattle.slack_base.specs.declared.limits.RawConfig.{RawConfig}
 use Rattle.slack_base.specs.declared.faults.WordFault.{WordFault}
@@ -7,7 +7,7 @@ use Rattle.slack_base.specs.declared.images.Image.{Image}
 use Rattle.slack_base.specs.declared.faults.ImageFault.{ImageFault}
 use Rattle.slacksim.specs.declared.answers.Answer.{Answer}
 use Rattle.slacksim.specs.declared.answers.Answer.TheVariants.{BadImage, OutOfMemory}
-use Rattle.slacksim.specs.Answers.{image_told, RefusesImage, IsWhole, most_bytes}
+use Rattle.slacksim.specs.Answers.{image_told, RefusesImage, most_bytes}
 
 module _ (order : Result RawConfig WordFault) (config : RawConfig) (is : order ≡ Ok config) (old now : Option (List ℕ)) (fault : ImageFault)
     (told : RefusesImage config old now fault) where

@@ -1,8 +1,8 @@
 -- The answers of a call, and what each says of the run.
-use Rattle.std.specs.Prelude.{◌≡◌, ◌≢◌, ℕ, ◌+◌, ◌-◌, ◌<◌, ◌≤◌, ◌==◌, Bool, true, false, not, IsTrue, List, [], ◌∷◌, Option, Some, None, Result, Ok, Err, length, count_by, IfSome, IsSomeAnd, IsOkAnd, if◌then◌else◌}
+use Rattle.std.specs.Prelude.{◌≡◌, ℕ, ◌==◌, Bool, true, false, List, [], Option, Some, Result, Err, count_by, IfSome, IsOkAnd, if◌then◌else◌}
 use Rattle.std.specs.List.{list_all}
 use Rattle.slack_base.specs.declared.cores.CoreEnd.{CoreEnd}
-use Rattle.slack_base.specs.declared.cores.CoreEnd.TheVariants.{Running, Exit, Trapped}
+use Rattle.slack_base.specs.declared.cores.CoreEnd.TheVariants.{Exit}
 use Rattle.slack_base.specs.declared.limits.RawConfig.{RawConfig}
 use Rattle.slack_base.specs.declared.images.Image.{Image}
 use Rattle.slack_base.specs.declared.faults.ImageFault.{ImageFault}

@@ -1,10 +1,10 @@
 -- The command words.
-use Rattle.std.specs.Prelude.{ℕ, ◌-◌, ◌&&◌, ◌==◌, Bool, List, [], ◌∷◌, Option, Some, None, Result, Ok, Err, codes, nat_le, nat_eq, if◌then◌else◌}
+use Rattle.std.specs.Prelude.{ℕ, ◌-◌, ◌&&◌, Bool, List, [], ◌∷◌, Option, Some, None, Result, Ok, Err, codes, nat_le, nat_eq, if◌then◌else◌}
 use Rattle.std.specs.Cmp.Lexicographic.{pointwise}
 use Rattle.slack_base.specs.declared.limits.RawConfig.{RawConfig}
 use Rattle.slack_base.specs.declared.faults.WordFault.{WordFault}
-use Rattle.slack_base.specs.declared.faults.WordFault.TheVariants.{Command, Bound}
-use Rattle.slack_base.specs.Bounds.{fault_of, settled}
+use Rattle.slack_base.specs.declared.faults.WordFault.TheVariants.{Command}
+use Rattle.slack_base.specs.Bounds.{settled}
 
 -- the numbers of a run that says nothing but how many cores there are
 abbrev pub default_of : ℕ → RawConfig

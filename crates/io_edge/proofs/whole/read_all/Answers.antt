@@ -1,4 +1,4 @@
-use Rattle.std.proofs.Common.{◌≡◌, ◌+◌, ◌-◌, ◌≤◌, length, vec_len, ℕ, arith}
+use Rattle.std.proofs.Common.{◌≤◌, length, ℕ, arith}
 use Rattle.std.proofs.lemmas.List.{length-take}
 use Rattle.io_edge.proofs.Progress.{front_after, moved_within}
 use Rattle.io_edge.proofs.whole.read_all.Goals as goal

@@ -1,5 +1,4 @@
-use Rattle.std.proofs.Common.{◌≡◌, ◌+◌, ◌-◌, ◌≤◌, ◌∙◌, ℕ, take, drop, length, ap, arith, rules}
-use Rattle.io_edge.specs.Streams.{with_after}
+use Rattle.std.proofs.Common.{rules}
 use Rattle.io_edge.proofs.Written.{written_more}
 use Rattle.io_edge.proofs.whole.write_all.Goals as goal
 

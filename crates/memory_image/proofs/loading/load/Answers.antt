@@ -1,4 +1,4 @@
-use Rattle.std.proofs.Common.{◌≡◌, ◌+◌, ◌-◌, ◌∙◌, length, replicate, sym, refl, ap, arith, rules}
+use Rattle.std.proofs.Common.{◌≡◌, ◌-◌, ◌∙◌, length, replicate, sym, refl, ap, arith}
 use Rattle.memory_image.proofs.Segments.{length_rest, written_at}
 use Rattle.memory_image.proofs.loading.load.Goals as goal
 

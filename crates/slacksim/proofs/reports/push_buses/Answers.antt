@@ -1,4 +1,4 @@
-use Rattle.std.proofs.Common.{◌≡◌, ◌++◌, ◌∙◌, ap}
+use Rattle.std.proofs.Common.{◌++◌, ◌∙◌, ap}
 use Rattle.slacksim.specs.Report.{bus_line}
 use Rattle.slacksim.proofs.Ranges.{pieces_more}
 use Rattle.slacksim.proofs.reports.push_buses.Goals as goal

@@ -1,7 +1,6 @@
-use Rattle.std.proofs.Common.{◌≡◌, ◌∙◌, sym, ap, Err, Ok, IfSome, Some, []}
+use Rattle.std.proofs.Common.{◌≡◌, ◌∙◌, ap, Err}
 use Rattle.slack_base.specs.Numbers.{numbers_of}
 use Rattle.slacksim.specs.Orders.{order_of}
-use Rattle.slacksim.specs.Answers.{RefusesImage}
 use Rattle.slacksim.specs.declared.loads.LoadError.TheVariants.{BadImage}
 use Rattle.slacksim.proofs.Refusals.{refuses_image, accepts_not, refuses_so}
 use Rattle.slacksim.proofs.simulation.simulate.Goals as goal
