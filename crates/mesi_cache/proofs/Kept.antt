@@ -54,12 +54,15 @@ module _ {X : Type 0} (q : X → Bool) where
     | inr n' ↦ rw n' (count_take n xs)
   ]
 
-  none_left : (xs : List X) → filter q (filter (λ x. not (q x)) xs) ≡ []
+  pub none_left : (xs : List X) → filter q (filter (λ x. not (q x)) xs) ≡ []
   none_left [] = refl
   none_left (x ∷ xs) = elim (cases_Bool (q x)) [
     | inl y ↦ rw y (none_left xs)
     | inr n ↦ rw (n, n) (none_left xs)
   ]
+
+pub same_line : (line : ℕ) (l : CacheLine) → (cond (is_line line l) (shared l) l).line ≡ l.line
+same_line line l = elim (is_line line l) as (λ b. (cond b (shared l) l).line ≡ l.line) [ true ↦ refl | false ↦ refl ]
 
 module _ (ways sets number : ℕ) (s : List CacheLine) (is : IsSet ways sets number s) where
   pub kept_front : (change : CacheLine → CacheLine) (line : ℕ) → ((l : CacheLine) → (change l).line ≡ l.line) → IsSet ways sets number (to_front change line s)
@@ -99,9 +102,6 @@ module _ (ways sets number : ℕ) (s : List CacheLine) (is : IsSet ways sets num
         ];
         placed = All-take P ways (new ∷ others new.line s) (All-cons P new _ belongs (All-filter (λ l. not (is_line new.line l)) P s is.placed));
       }
-
-  same_line : (line : ℕ) (l : CacheLine) → (cond (is_line line l) (shared l) l).line ≡ l.line
-  same_line line l = elim (is_line line l) as (λ b. (cond b (shared l) l).line ≡ l.line) [ true ↦ refl | false ↦ refl ]
 
   pub kept_snoop : (line : ℕ) (own : Bool) → IsSet ways sets number (snoop_set line own s)
   kept_snoop line true =

@@ -2,6 +2,7 @@
 #![tactic(auto)]
 
 pub mod caches;
+pub mod laws;
 pub mod lines;
 mod sets;
 mod words;

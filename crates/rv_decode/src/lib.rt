@@ -22,4 +22,4 @@ pub use ranges::is_in_range;
 pub use slack_base::{
     AmoOp, BranchOp, ByteList, ImmOp, Instr, LoadOp, OutOfMemory, RegOp, ShiftOp, StoreOp,
 };
-pub use texts::text_of;
+pub use texts::{InstrText, text_of};

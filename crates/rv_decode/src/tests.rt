@@ -1,4 +1,11 @@
 //! Words and texts as LLVM's assembler gives them (`llvm-mc -triple=riscv32 -mattr=+m,+a -show-encoding`).
+ghost use Rattle.std.specs.Prelude.{◌≡◌, ℕ, ℤ, IfSome, Some};
+ghost use Rattle.slack_base.specs.declared.instructions.BranchOp.{BranchOp};
+ghost use Rattle.slack_base.specs.declared.instructions.Instr.TheVariants.{Branch};
+ghost use Rattle.rv_decode.specs.Fields.{opcode_of};
+ghost use Rattle.rv_decode.specs.Encodes.{Encodes};
+ghost use Rattle.rv_decode.specs.Ranges.{IsBranchOffset};
+
 use super::*;
 use std::alloc::Global;
 use std::process::Abort;
@@ -109,4 +116,22 @@ fn other_words(rt: HostRuntime) {
     for bits in OTHERS {
         assert_eq!(rt; decode(bits), None, "{bits:08x}");
     }
+}
+
+/// How far a branch goes. Its clauses follow from those of `decode` alone.
+fn branch_offset(bits: u32) -> Option<i32>
+    ensures branch { (op : BranchOp) (rs1 rs2 : ℕ) (offset : ℤ) → Encodes bits (Branch op rs1 rs2 offset) → result ≡ Some offset }
+    ensures in_range { IfSome result IsBranchOffset }
+    ensures opcode { IfSome result (λ _. opcode_of bits ≡ 0b1100011) }
+{
+    match decode(bits)? {
+        Instr::Branch { offset, .. } => Some(offset),
+        _ => None,
+    }
+}
+
+#[test]
+fn offsets_of_branches(rt: HostRuntime) {
+    assert_eq!(rt; branch_offset(0xfe83efe3), Some(-2), "bltu");
+    assert_eq!(rt; branch_offset(0xffdff06f), None, "jal");
 }
