@@ -16,7 +16,8 @@ use Rattle.status_map.specs.Laws.{AreAtLeast}
 use Rattle.status_map.proofs.Lawful.{all_lawful}
 use Rattle.bus_model.specs.Channels.{BusValue, AsBus, AsConsole, IsSoundBus, entry_of}
 use Rattle.bus_model.specs.Serving.{delays_of, grant_of, granted, on_entry, on_line, bus_served, served}
-use Rattle.bus_model.specs.Laws.{IsSlowMemory, IsLawful, AllLawful, lookahead_of}
+use Rattle.bus_model.specs.Laws.{IsSlowMemory, IsLawful, AllLawful, AllMayServe, lookahead_of}
+use Rattle.bus_model.specs.Asks.{IsAskOf}
 
 abbrev IsLawfulBus : BusValue → Ask → BusValue × List Post → Type 0
 IsLawfulBus b ask out = IsLawful b.config b.number ask (AsBus b) (AsBus out.0) out.1
@@ -92,15 +93,21 @@ bus-lawful b ask slow s low = on-line b ask slow s low (line_of ask) refl
 
 pub channels-lawful : AllLawful
 unfolding served
-channels-lawful config number (AsBus b) ask slow s same may =
+channels-lawful config number (AsBus b) ask slow s same of =
     let out = bus_served b ask in
-    let here = bus-lawful b ask (subst IsSlowMemory (sym same.0) slow) s may.proper.core in
+    let core : (id_of ask).core < b.config.cores = subst (λ (c : RawConfig). (id_of ask).core < c.cores) (sym same.0) of.proper.core in
+    let here = bus-lawful b ask (subst IsSlowMemory (sym same.0) slow) s core in
     subst (λ (n : ℕ). IsLawful config n ask (AsBus b) (AsBus out.0) out.1) same.1
     (subst (λ (c : RawConfig). IsLawful c b.number ask (AsBus b) (AsBus out.0) out.1) same.0 here)
-channels-lawful config number (AsConsole bytes) ask slow s same may = record {
+channels-lawful config number (AsConsole bytes) ask slow s same of = record {
   sound = tt;
   same = same;
   free = omega arith;
   posts = All-nil _;
   once = λ i j d low high. absurd (omega arith);
 }
+
+pub may-serve : AllMayServe
+may-serve config number (AsBus b) ask same of =
+    subst (λ (n : ℕ). IsAskOf b.config n ask) (sym same.1) (subst (λ (c : RawConfig). IsAskOf c number ask) (sym same.0) of)
+may-serve config number (AsConsole bytes) ask same of = tt

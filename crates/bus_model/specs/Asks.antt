@@ -3,7 +3,7 @@ use Rattle.std.specs.Prelude.{ℕ, ◌≡◌, ◌%◌, ◌<◌, ◌≤◌, ◌^�
 use Rattle.slack_base.specs.declared.limits.RawConfig.{RawConfig}
 use Rattle.slack_base.specs.declared.messages.Ask.{Ask}
 use Rattle.slack_base.specs.Messages.{id_of, line_of}
-use Rattle.bus_model.specs.Channels.{BusValue, ChannelValue, AsBus, AsConsole, lines_of}
+use Rattle.bus_model.specs.Channels.{ChannelValue, setting_of, lines_of}
 
 -- the number of the channel that an ask is of: the lines go round the buses, and the console comes after these
 abbrev pub channel_of_line : ℕ → Option ℕ → ℕ
@@ -24,22 +24,28 @@ pub record IsProperAsk (config : RawConfig) (ask : Ask) : Type 0 where
   pub cycle : (id_of ask).cycle ≤ 2 ^ 62
   pub line : IsLine config (line_of ask)
 
--- a proper ask that is of the bus
-pub record IsAskOf (b : BusValue) (ask : Ask) : Type 0 where
-  pub proper : IsProperAsk b.config ask
-  pub own : channel_of b.config.buses ask ≡ b.number
+-- a proper ask that is of the channel of this number
+pub record IsAskOf (config : RawConfig) (number : ℕ) (ask : Ask) : Type 0 where
+  pub proper : IsProperAsk config ask
+  pub own : channel_of config.buses ask ≡ number
+
+abbrev pub IsAskAt : Option (ℕ × RawConfig) → Ask → Type 0
+IsAskAt None ask = Unit {0}
+IsAskAt (Some s) ask = IsAskOf s.1 s.0 ask
 
 -- the channel may be asked: a bus only what is of it, and the console anything, though only a byte changes it
 abbrev pub MayServe : ChannelValue → Ask → Type 0
-MayServe (AsBus b) ask = IsAskOf b ask
-MayServe (AsConsole bytes) ask = Unit {0}
+MayServe c ask = IsAskAt (setting_of c) ask
 
--- the line is one of memory and of the bus
-pub record IsLineOf (b : BusValue) (line : ℕ) : Type 0 where
-  pub inside : line < lines_of b.config
-  pub own : line % b.config.buses ≡ b.number
+-- the line is one of memory and of the bus of this number
+pub record IsLineOf (config : RawConfig) (number line : ℕ) : Type 0 where
+  pub inside : line < lines_of config
+  pub own : line % config.buses ≡ number
+
+abbrev pub IsLineAt : Option (ℕ × RawConfig) → ℕ → Type 0
+IsLineAt None line = ⊥
+IsLineAt (Some s) line = IsLineOf s.1 s.0 line
 
 -- the channel is a bus, and the line is one of it
 abbrev pub HasLine : ChannelValue → ℕ → Type 0
-HasLine (AsBus b) line = IsLineOf b line
-HasLine (AsConsole bytes) line = ⊥
+HasLine c line = IsLineAt (setting_of c) line

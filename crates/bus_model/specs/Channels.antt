@@ -1,5 +1,5 @@
 -- What a channel is.
-use Rattle.std.specs.Prelude.{ℕ, ◌/◌, ◌≡◌, ◌<◌, ◌≤◌, ◌^◌, List, [], Option, None, All, length, slice_get}
+use Rattle.std.specs.Prelude.{ℕ, ◌/◌, ◌≡◌, ◌<◌, ◌≤◌, ◌^◌, List, [], Option, None, Some, All, length, slice_get}
 use Rattle.slack_base.specs.declared.limits.RawConfig.{RawConfig}
 use Rattle.status_map.specs.declared.views.EntryView.{EntryView}
 use Rattle.status_map.specs.Entries.{NamesBelow}
@@ -18,6 +18,11 @@ pub record BusValue : Type 0 where
 pub data ChannelValue : Type 0 where
   AsBus : BusValue → ChannelValue
   AsConsole : List ℕ → ChannelValue
+
+-- the number of a bus and the configuration of its machine: none of the console
+abbrev pub setting_of : ChannelValue → Option (ℕ × RawConfig)
+setting_of (AsBus b) = Some (b.number, b.config)
+setting_of (AsConsole bytes) = None
 
 -- how many lines memory has
 abbrev pub lines_of : RawConfig → ℕ

@@ -5,7 +5,7 @@ use Rattle.slack_base.specs.declared.messages.Ask.{Ask}
 use Rattle.slack_base.specs.declared.messages.Post.{Post}
 use Rattle.slack_base.specs.Messages.{id_of, line_of}
 use Rattle.bus_model.specs.Channels.{ChannelValue, AsBus, AsConsole, IsSound, free_of}
-use Rattle.bus_model.specs.Asks.{MayServe}
+use Rattle.bus_model.specs.Asks.{IsAskOf, MayServe}
 use Rattle.bus_model.specs.Serving.{served}
 
 -- the least number of cycles from an ask to a post that it causes
@@ -41,5 +41,11 @@ pub record IsLawful (config : RawConfig) (number : ℕ) (ask : Ask) (before afte
 abbrev pub AllLawful : Type 0
 AllLawful =
     (config : RawConfig) (number : ℕ) (c : ChannelValue) (ask : Ask)
-    → IsSlowMemory config → IsSound c → IsNumber config number c → MayServe c ask
+    → IsSlowMemory config → IsSound c → IsNumber config number c → IsAskOf config number ask
     → IsLawful config number ask c (served c ask).0 (served c ask).1
+
+-- the channel of a number may be asked what is of it
+abbrev pub AllMayServe : Type 0
+AllMayServe =
+    (config : RawConfig) (number : ℕ) (c : ChannelValue) (ask : Ask)
+    → IsNumber config number c → IsAskOf config number ask → MayServe c ask

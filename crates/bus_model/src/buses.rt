@@ -71,7 +71,7 @@ impl Bus {
     /// Serves an ask. The posts are appended.
     #[tactic(auto, unfolding(crate::specs::Serving::bus_served))]
     pub(crate) fn serve(&mut self, ask: &Ask, out: &mut PostList) -> Result<(), OutOfMemory>
-        requires { IsAskOf self.old ask.now }
+        requires { IsAskOf self.old.config self.old.number ask.now }
         ensures bus { OnOk result (self.new ≡ (bus_served self.old ask.now).0) }
         ensures posts { OnOk result (out.new ≡ out.old ++ (bus_served self.old ask.now).1) }
     {
@@ -86,7 +86,7 @@ impl Bus {
 
     /// Grants the bus to an ask for a line of it, and answers the posts.
     fn grant(&mut self, ask: &Ask, line: u32) -> PostBatch
-        requires ask { IsAskOf self.old ask.now }
+        requires ask { IsAskOf self.old.config self.old.number ask.now }
         requires line { line_of ask.now ≡ Some line }
         ensures bus { self.new ≡ (bus_served self.old ask.now).0 }
         ensures posts { result ≡ (bus_served self.old ask.now).1 }
@@ -105,7 +105,7 @@ impl Bus {
 
     /// The entry of a line of the bus.
     pub(crate) fn entry(&self, line: u32) -> EntryView
-        requires { IsLineOf self.now line }
+        requires { IsLineOf self.now.config self.now.number line }
         ensures { entry_of self.now line ≡ Some result }
     {
         let place = (line / self.config.buses) as usize;

@@ -46,7 +46,7 @@ pub fn channel_of(ask: &Ask, buses: u32) -> u32
 impl Channel {
     ghost use Rattle.slack_base.specs.Images.{Fits};
     ghost use Rattle.slack_base.specs.Numbers.{numbers_of};
-    ghost use Rattle.bus_model.specs.Channels.{AsBus, AsConsole, entry_at, free_of, asks_of, retries_of, count_of, bytes_of, IsSound};
+    ghost use Rattle.bus_model.specs.Channels.{AsBus, AsConsole, setting_of, entry_at, free_of, asks_of, retries_of, count_of, bytes_of, IsSound};
     ghost use Rattle.bus_model.specs.Asks.{MayServe, HasLine};
     ghost use Rattle.bus_model.specs.Starting.{first_bus};
     ghost use Rattle.bus_model.specs.Serving.{served};
@@ -62,6 +62,7 @@ impl Channel {
         requires image { Fits config.now.base config.now.memory image.now }
         ensures value { IfOk result (λ channel. channel ≡ AsBus (first_bus (numbers_of config.now) image.now index)) }
         ensures sound { IfOk result (λ channel. IsSound channel) }
+        ensures setting { IfOk result (λ channel. setting_of channel ≡ Some (index, numbers_of config.now)) }
     {
         let bus = Bus::new(alloc, index, config, image)?;
         Ok(Channel {
@@ -83,6 +84,7 @@ impl Channel {
     pub fn serve(&mut self, ask: &Ask, out: &mut PostList) -> Result<(), OutOfMemory>
         requires { MayServe self.old ask.now }
         ensures channel { OnOk result (self.new ≡ (served self.old ask.now).0) }
+        ensures setting { OnOk result (setting_of self.new ≡ setting_of self.old) }
         ensures posts { OnOk result (out.new ≡ out.old ++ (served self.old ask.now).1) }
     {
         match &mut self.kind {
@@ -162,3 +164,6 @@ fn put_on(bytes: &mut Vec<u8>, ask: &Ask) -> Result<(), OutOfMemory>
     }
     Ok(())
 }
+
+#[cfg(test)]
+mod tests;
