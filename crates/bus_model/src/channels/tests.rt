@@ -1,7 +1,14 @@
 //! Asks on one channel, one after another, with the posts that come of them.
 
+ghost use Rattle.std.specs.Prelude.{◌≡◌, ◌+◌, ◌<◌, ◌≤◌, Some, IfOk, OnOk};
+ghost use Rattle.slack_base.specs.Bounds.{settled};
+ghost use Rattle.slack_base.specs.Images.{Fits};
+ghost use Rattle.slack_base.specs.Numbers.{numbers_of};
+ghost use Rattle.bus_model.specs.Channels.{setting_of};
+
 use super::*;
 use slack_base::{ByteList, Id, Post, PostKind, RawConfig, Segment, SegmentList, Words};
+use status_map::EntryKind;
 use std::test::Fail;
 
 /// Two cores, one bus and a memory of 512 lines.
@@ -31,20 +38,20 @@ enum Request {
     Flush(Option<u32>),
 }
 
-/// A line with this word at its front.
-fn words_of(w0: u32) -> Words {
+/// A line with these words at its front.
+fn words_of(w0: u32, w1: u32) -> Words {
     Words {
         w0,
-        w1: 0,
+        w1,
         w2: 0,
         w3: 0,
     }
 }
 
-fn reply(exclusive: bool, w0: u32) -> PostKind {
+fn reply(exclusive: bool, w0: u32, w1: u32) -> PostKind {
     PostKind::Reply {
         exclusive,
-        words: words_of(w0),
+        words: words_of(w0, w1),
     }
 }
 
@@ -55,12 +62,12 @@ fn ask_of(id: Id, line: u32, request: Request) -> Ask {
         Request::WriteBack(w0) => Ask::WriteBack {
             id,
             line,
-            words: words_of(w0),
+            words: words_of(w0, 0),
         },
         Request::Flush(w0) => Ask::Flush {
             id,
             line,
-            words: w0.map(words_of),
+            words: w0.map(|word| words_of(word, 0)),
         },
     }
 }
@@ -72,12 +79,7 @@ fn is_post(post: &Post, line: u32, wanted: &(u32, u64, PostKind)) -> bool {
 
 /// An ask and the post that comes of it, if one does: the core, the cycle of the stamp and the ask's number in its
 /// tick, the line, and what is asked; and then the core that the post goes to, its due and what it says.
-type Line = (
-    (u32, u64, u64),
-    u32,
-    Request,
-    Option<(u32, u64, PostKind)>,
-);
+type Exchange = ((u32, u64, u64), u32, Request, Option<(u32, u64, PostKind)>);
 
 /// Serves an ask on the one bus, and says whether this post alone came of it.
 fn sends(
@@ -113,7 +115,7 @@ fn sends(
 fn all_send(
     bus: &mut Channel,
     config: &Config,
-    lines: &[Line],
+    lines: &[Exchange],
     out: &mut PostList,
 ) -> Result<bool, OutOfMemory>
     requires { setting_of bus.old ≡ Some (0, numbers_of config.now) }
@@ -132,33 +134,136 @@ fn all_send(
     Ok(true)
 }
 
-/// The image with nothing in it.
-fn empty(alloc: Global) -> Image {
-    Image {
-        entry: 0,
-        segments: SegmentList::new(alloc),
-    }
+/// An image whose one segment begins at line 256.
+fn image(alloc: Global) -> Result<Image, OutOfMemory>
+    ensures { IfOk result (λ image. Fits 0 8192 image) }
+{
+    let bytes = ByteList::of(vec![in alloc; 1u8, 2, 3, 4, 5]?);
+    let segment = Segment {
+        address: 4096,
+        bytes,
+        size: 16,
+    };
+    let mut segments = SegmentList::new(alloc);
+    segments.push(segment)?;
+    Ok(Image { entry: 0, segments })
+}
+
+/// The one bus of two cores.
+fn bus_of(alloc: Global, config: &Config) -> Result<Channel, OutOfMemory>
+    requires { numbers_of config.now ≡ settled TWO_CORES }
+    ensures { IfOk result (λ bus. setting_of bus ≡ Some (0, numbers_of config.now)) }
+{
+    let image = image(alloc)?;
+    Channel::bus(alloc, 0, config, &image)
+}
+
+#[test]
+fn a_bus_begins_with_the_image(rt: HostRuntime) -> Result<(), Fail> {
+    let config = Config::checked(TWO_CORES).expect(&rt, "two cores");
+    let bus = bus_of(rt.alloc(), &config)?;
+    let wanted = EntryView {
+        kind: EntryKind::Idle,
+        settled: 0,
+        words: Words {
+            w0: 0x04030201,
+            w1: 5,
+            w2: 0,
+            w3: 0,
+        },
+    };
+    assert_eq!(rt; bus.entry(256), wanted);
+    assert_eq!(rt; bus.lines(), 512);
+    assert!(rt; bus.console_bytes().is_empty());
+    Ok(())
 }
 
 #[test]
 fn two_cores_store_to_one_line(rt: HostRuntime) -> Result<(), Fail> {
-    let Ok(config) = Config::checked(TWO_CORES) else {
-        return Err(Fail);
-    };
-    let mut bus = Channel::bus(rt.alloc(), 0, &config, &empty(rt.alloc()))?;
+    let config = Config::checked(TWO_CORES).expect(&rt, "two cores");
+    let mut bus = bus_of(rt.alloc(), &config)?;
     let mut out = PostList::new(rt.alloc());
-    let retry = |due| Some((1, due, PostKind::Retry));
+    let (own, retry) = (Request::ReadOwn, PostKind::Retry);
     let lines = [
-        ((0, 1, 0), 256, Request::ReadOwn, Some((0, 11, reply(true, 0)))),
-        ((1, 1, 0), 256, Request::ReadOwn, Some((1, 5, PostKind::Retry))),
-        ((1, 5, 0), 256, Request::ReadOwn, Some((1, 7, PostKind::Retry))),
-        ((1, 7, 0), 256, Request::ReadOwn, Some((1, 9, PostKind::Retry))),
-        ((1, 9, 0), 256, Request::ReadOwn, Some((1, 11, PostKind::Retry))),
-        ((1, 11, 0), 256, Request::ReadOwn, Some((1, 13, PostKind::Retry))),
-        ((1, 13, 0), 256, Request::ReadOwn, Some((0, 15, PostKind::SnoopOwn))),
-        ((0, 15, 0), 256, Request::Flush(Some(1)), Some((1, 18, reply(true, 1)))),
+        (
+            (0, 1, 0),
+            256,
+            own,
+            Some((0, 11, reply(true, 0x04030201, 5))),
+        ),
+        ((1, 1, 0), 256, own, Some((1, 5, retry))),
+        ((1, 5, 0), 256, own, Some((1, 7, retry))),
+        ((1, 7, 0), 256, own, Some((1, 9, retry))),
+        ((1, 9, 0), 256, own, Some((1, 11, retry))),
+        ((1, 11, 0), 256, own, Some((1, 13, retry))),
+        ((1, 13, 0), 256, own, Some((0, 15, PostKind::SnoopOwn))),
+        (
+            (0, 15, 0),
+            256,
+            Request::Flush(Some(1)),
+            Some((1, 18, reply(true, 1, 0))),
+        ),
     ];
     assert!(rt; all_send(&mut bus, &config, &lines, &mut out)?);
     assert_eq!(rt; (bus.asks(), bus.retries(), bus.free()), (8, 5, 17));
+    Ok(())
+}
+
+#[test]
+fn a_write_back_passes_a_snoop(rt: HostRuntime) -> Result<(), Fail> {
+    let config = Config::checked(TWO_CORES).expect(&rt, "two cores");
+    let mut bus = bus_of(rt.alloc(), &config)?;
+    let mut out = PostList::new(rt.alloc());
+    let lines = [
+        (
+            (0, 1, 0),
+            256,
+            Request::ReadOwn,
+            Some((0, 11, reply(true, 0x04030201, 5))),
+        ),
+        (
+            (0, 13, 0),
+            257,
+            Request::Read,
+            Some((0, 23, reply(true, 0, 0))),
+        ),
+        (
+            (1, 21, 0),
+            256,
+            Request::Read,
+            Some((0, 23, PostKind::SnoopShare)),
+        ),
+        ((0, 23, 0), 256, Request::WriteBack(4096), None),
+        (
+            (0, 23, 1),
+            256,
+            Request::Flush(None),
+            Some((1, 28, reply(false, 4096, 0))),
+        ),
+    ];
+    assert!(rt; all_send(&mut bus, &config, &lines, &mut out)?);
+    assert_eq!(rt; (bus.asks(), bus.retries(), bus.free()), (5, 0, 27));
+    Ok(())
+}
+
+#[test]
+fn the_console_keeps_its_bytes(rt: HostRuntime) -> Result<(), Fail> {
+    let mut console = Channel::console(rt.alloc());
+    let mut out = PostList::new(rt.alloc());
+    for (core, byte) in [(0, b'A'), (1, b'B')] {
+        let id = Id {
+            cycle: 2,
+            core,
+            number: 0,
+        };
+        console.serve(&Ask::Put { id, byte }, &mut out)?;
+    }
+    assert_eq!(rt; console.console_bytes(), b"AB".as_slice());
+    assert!(rt; out.is_empty());
+    assert_eq!(rt;
+        (console.asks(), console.retries(), console.free()),
+        (0, 0, 0)
+    );
+    assert_eq!(rt; console.lines(), 0);
     Ok(())
 }

@@ -1,5 +1,4 @@
-use Rattle.std.proofs.Common.{◌≡◌, Some, ap}
-use Rattle.slack_base.specs.Numbers.{numbers_of}
+use Rattle.std.proofs.Common.{Some, ap}
 use Rattle.bus_model.specs.Channels.{BusValue}
 use Rattle.bus_model.specs.Starting.{first_bus}
 use Rattle.bus_model.proofs.channels.Channel.bus.Goals as goal
