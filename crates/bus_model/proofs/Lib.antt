@@ -1,0 +1,5 @@
+pub mod FirstBus
+pub mod Granting
+pub mod Lawful
+pub mod Places
+pub mod Words

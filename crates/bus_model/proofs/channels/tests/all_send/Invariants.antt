@@ -1,0 +1,7 @@
+use Rattle.std.proofs.Common.{◌≡◌, Some}
+use Rattle.slack_base.specs.Numbers.{numbers_of}
+use Rattle.bus_model.specs.Channels.{setting_of}
+use Rattle.bus_model.proofs.channels.tests.all_send.Given as goal
+
+abbrev pub invariant-loop-core : goal.invariant-loop-core
+invariant-loop-core l = setting_of l.bus ≡ Some (0, numbers_of l.config)

@@ -1,0 +1,8 @@
+-- What the code's channels are.
+use Rattle.bus_model.specs.declared.channels.Kind.{Kind}
+use Rattle.bus_model.specs.declared.channels.Kind.TheVariants.{Bus as BusKind, Console as ConsoleKind}
+use Rattle.bus_model.specs.Channels.{ChannelValue, AsBus, AsConsole}
+
+abbrev pub value_of : Kind → ChannelValue
+value_of (BusKind b) = AsBus b
+value_of (ConsoleKind bytes) = AsConsole bytes.items

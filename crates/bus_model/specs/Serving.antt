@@ -1,0 +1,67 @@
+-- What an ask does to its channel, and the posts that come of it.
+use Rattle.std.specs.Prelude.{ℕ, ◌+◌, ◌/◌, ◌^◌, Bool, true, false, List, [], ◌∷◌, ◌++◌, Option, None, Some, min, max, count_by, slice_set}
+use Rattle.slack_base.specs.declared.limits.RawConfig.{RawConfig}
+use Rattle.slack_base.specs.declared.messages.Ask.{Ask}
+use Rattle.slack_base.specs.declared.messages.Ask.TheVariants.{Put}
+use Rattle.slack_base.specs.declared.messages.Post.{Post}
+use Rattle.slack_base.specs.declared.messages.PostKind.{PostKind}
+use Rattle.slack_base.specs.declared.messages.PostKind.TheVariants.{Retry}
+use Rattle.slack_base.specs.Messages.{id_of, line_of}
+use Rattle.status_map.specs.declared.views.EntryView.{EntryView}
+use Rattle.status_map.specs.declared.views.Delays.{Delays}
+use Rattle.status_map.specs.Table.{serve}
+use Rattle.bus_model.specs.Channels.{BusValue, ChannelValue, AsBus, AsConsole, entry_of}
+
+abbrev pub delays_of : RawConfig → Delays
+delays_of config = record { snoop = config.snoop; memory = config.memory_delay; transfer = config.transfer }
+
+abbrev pub is_retry_kind : PostKind → Bool
+is_retry_kind Retry = true
+is_retry_kind kind = false
+
+abbrev pub is_retry : Post → Bool
+is_retry p = is_retry_kind p.kind
+
+-- a number that stops at 2^62
+abbrev pub capped : ℕ → ℕ
+capped n = min n (2 ^ 62)
+
+-- an ask gets the bus once it is free, at the cycle of its stamp at the soonest
+abbrev pub grant_of : BusValue → Ask → ℕ
+grant_of b ask = max (id_of ask).cycle b.free
+
+-- an ask for a line of the bus takes it for some cycles, and the status map says what comes of the line's entry
+unfoldable pub granted : BusValue → Ask → ℕ → EntryView → BusValue × List Post
+granted b ask line entry =
+    let grant = grant_of b ask in
+    let s = serve (delays_of b.config) grant ask entry in (
+      record b {
+        free = capped (grant + b.config.occupancy);
+        asks = capped (b.asks + 1);
+        retries = capped (b.retries + count_by is_retry s.posts);
+        entries = slice_set b.entries (line / b.config.buses) s.entry;
+      },
+      s.posts,
+    )
+
+-- an ask for no line of the bus isn't of the bus, and changes nothing
+abbrev pub on_entry : BusValue → Ask → ℕ → Option EntryView → BusValue × List Post
+on_entry b ask line None = (b, [])
+on_entry b ask line (Some entry) = granted b ask line entry
+
+abbrev pub on_line : BusValue → Ask → Option ℕ → BusValue × List Post
+on_line b ask None = (b, [])
+on_line b ask (Some line) = on_entry b ask line (entry_of b line)
+
+unfoldable pub bus_served : BusValue → Ask → BusValue × List Post
+bus_served b ask = on_line b ask (line_of ask)
+
+-- the console appends the byte of a Put
+abbrev pub put_on : List ℕ → Ask → List ℕ
+put_on bytes (Put id byte) = bytes ++ byte ∷ []
+put_on bytes ask = bytes
+
+-- the channel after an ask, and the posts in the order in which they are sent
+unfoldable pub served : ChannelValue → Ask → ChannelValue × List Post
+served (AsBus b) ask = let s = bus_served b ask in (AsBus s.0, s.1)
+served (AsConsole bytes) ask = (AsConsole (put_on bytes ask), [])

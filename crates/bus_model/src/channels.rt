@@ -1,0 +1,169 @@
+//! A channel: a bus or the console.
+ghost use Rattle.std.specs.Prelude.{◌≡◌, ◌+◌, ◌<◌, ◌≤◌, ◌++◌, [], Some, IfOk, OnOk};
+ghost use Rattle.bus_model.specs.Asks.{channel_of};
+ghost use Rattle.bus_model.specs.Serving.{put_on};
+
+use crate::buses::Bus;
+use slack_base::{Ask, Config, Image, OutOfMemory, PostList};
+use status_map::EntryView;
+use std::alloc::Global;
+use std::marker::Model;
+
+/// A channel that asks go to, one after another. A contract sees its value.
+#[derive(Debug, Drop)]
+pub struct Channel {
+    kind: Kind,
+}
+
+#[derive(Debug, Drop)]
+enum Kind {
+    Bus(Bus),
+    Console(Vec<u8>),
+}
+
+impl Model for Channel {
+    ghost use Rattle.bus_model.specs.Channels.{ChannelValue};
+
+    ghost Value = { ChannelValue };
+
+    ghost use Rattle.bus_model.specs.Kinds.{value_of};
+
+    ghost view = { λ c. value_of c.kind };
+}
+
+/// The number of the channel that an ask is of, in a machine with so many buses: the lines go round the buses, and a
+/// byte goes to the console, whose number comes after theirs.
+pub fn channel_of(ask: &Ask, buses: u32) -> u32
+    requires { 0 < buses }
+    ensures { result ≡ channel_of buses ask.now }
+{
+    match ask.line() {
+        Some(line) => line % buses,
+        None => buses,
+    }
+}
+
+impl Channel {
+    ghost use Rattle.slack_base.specs.Images.{Fits};
+    ghost use Rattle.slack_base.specs.Numbers.{numbers_of};
+    ghost use Rattle.bus_model.specs.Channels.{AsBus, AsConsole, setting_of, entry_at, free_of, asks_of, retries_of, count_of, bytes_of, IsSound};
+    ghost use Rattle.bus_model.specs.Asks.{MayServe, HasLine};
+    ghost use Rattle.bus_model.specs.Starting.{first_bus};
+    ghost use Rattle.bus_model.specs.Serving.{served};
+
+    /// The bus of a number, before the first cycle: memory has the image's bytes, and no core holds a line.
+    pub fn bus(
+        alloc: Global,
+        index: u32,
+        config: &Config,
+        image: &Image,
+    ) -> Result<Channel, OutOfMemory>
+        requires bus { index < config.now.buses }
+        requires image { Fits config.now.base config.now.memory image.now }
+        ensures value { IfOk result (λ channel. channel ≡ AsBus (first_bus (numbers_of config.now) image.now index)) }
+        ensures sound { IfOk result (λ channel. IsSound channel) }
+        ensures setting { IfOk result (λ channel. setting_of channel ≡ Some (index, numbers_of config.now)) }
+    {
+        let bus = Bus::new(alloc, index, config, image)?;
+        Ok(Channel {
+            kind: Kind::Bus(bus),
+        })
+    }
+
+    /// The console with no bytes. It takes no memory.
+    pub fn console(alloc: Global) -> Channel
+        ensures { result ≡ AsConsole [] }
+    {
+        Channel {
+            kind: Kind::Console(Vec::new(alloc)),
+        }
+    }
+
+    /// Serves an ask. The posts are appended, in the order in which they are sent.
+    #[tactic(auto, unfolding(crate::specs::Serving::served))]
+    pub fn serve(&mut self, ask: &Ask, out: &mut PostList) -> Result<(), OutOfMemory>
+        requires { MayServe self.old ask.now }
+        ensures channel { OnOk result (self.new ≡ (served self.old ask.now).0) }
+        ensures setting { OnOk result (setting_of self.new ≡ setting_of self.old) }
+        ensures posts { OnOk result (out.new ≡ out.old ++ (served self.old ask.now).1) }
+    {
+        match &mut self.kind {
+            Kind::Bus(bus) => bus.serve(ask, out),
+            Kind::Console(bytes) => put_on(bytes, ask),
+        }
+    }
+
+    /// The entry of a line of the bus.
+    pub fn entry(&self, line: u32) -> EntryView
+        requires { HasLine self.now line }
+        ensures { entry_at self.now line ≡ Some result }
+    {
+        match &self.kind {
+            Kind::Bus(bus) => bus.entry(line),
+            Kind::Console(_) => unreachable!(),
+        }
+    }
+
+    /// The cycle from which the bus is free: 0 on the console.
+    pub fn free(&self) -> u64
+        ensures { result ≡ free_of self.now }
+    {
+        match &self.kind {
+            Kind::Bus(bus) => bus.free(),
+            Kind::Console(_) => 0,
+        }
+    }
+
+    /// How many asks the bus has served: 0 on the console.
+    pub fn asks(&self) -> u64
+        ensures { result ≡ asks_of self.now }
+    {
+        match &self.kind {
+            Kind::Bus(bus) => bus.asks(),
+            Kind::Console(_) => 0,
+        }
+    }
+
+    /// How many retries the bus has sent: 0 on the console.
+    pub fn retries(&self) -> u64
+        ensures { result ≡ retries_of self.now }
+    {
+        match &self.kind {
+            Kind::Bus(bus) => bus.retries(),
+            Kind::Console(_) => 0,
+        }
+    }
+
+    /// The bytes on the console: none on a bus.
+    pub fn console_bytes(&self) -> &[u8]
+        ensures { result.now ≡ bytes_of self.now }
+    {
+        match &self.kind {
+            Kind::Bus(_) => &[],
+            Kind::Console(bytes) => bytes.as_slice(),
+        }
+    }
+
+    /// How many lines of memory the bus has: 0 on the console.
+    pub fn lines(&self) -> u32
+        ensures { result ≡ count_of self.now }
+    {
+        match &self.kind {
+            Kind::Bus(bus) => bus.lines(),
+            Kind::Console(_) => 0,
+        }
+    }
+}
+
+/// Appends the byte of a Put.
+fn put_on(bytes: &mut Vec<u8>, ask: &Ask) -> Result<(), OutOfMemory>
+    ensures { OnOk result (bytes.new.items ≡ put_on bytes.old.items ask.now) }
+{
+    if let Ask::Put { byte, .. } = *ask {
+        bytes.push(byte)?;
+    }
+    Ok(())
+}
+
+#[cfg(test)]
+mod tests;

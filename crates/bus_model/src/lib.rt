@@ -1,0 +1,10 @@
+//! The channels that asks go to: the buses, each with the status map of its lines, and the console.
+#![tactic(auto)]
+
+mod buses;
+pub mod channels;
+mod entries;
+pub mod laws;
+mod starting;
+
+pub use channels::{Channel, channel_of};

@@ -1,0 +1,60 @@
+//! The entries of a bus before the first cycle.
+ghost use Rattle.std.specs.Prelude.{◌≡◌, ◌+◌, ◌*◌, ◌/◌, ◌<◌, ◌≤◌, map, length, slice_index, IfOk};
+ghost use Rattle.std.specs.List.{range_with_len};
+ghost use Rattle.slack_base.specs.Images.{Fits};
+ghost use Rattle.slack_base.specs.Numbers.{numbers_of};
+ghost use Rattle.bus_model.specs.Channels.{lines_of};
+ghost use Rattle.bus_model.specs.Starting.{first_entry, idle, word_at, words_at};
+
+use memory_image::loaded_bytes;
+use slack_base::{Config, Image, OutOfMemory, Words};
+use status_map::Entry;
+use std::alloc::Global;
+
+/// The little-endian word at a place.
+fn word_at(bytes: &[u8], place: usize) -> u32
+    requires { place + 4 ≤ length bytes.now }
+    ensures { result ≡ word_at (slice_index bytes.now) place }
+{
+    u32::from_le_bytes([
+        bytes[place],
+        bytes[place + 1],
+        bytes[place + 2],
+        bytes[place + 3],
+    ])
+}
+
+/// The entry of a line, with the bytes of memory.
+fn entry_at(bytes: &[u8], line: usize) -> Entry
+    requires { 16 * line + 16 ≤ length bytes.now }
+    ensures { result ≡ idle (words_at (slice_index bytes.now) (16 * line)) }
+{
+    let place = 16 * line;
+    Entry::idle(Words {
+        w0: word_at(bytes, place),
+        w1: word_at(bytes, place + 4),
+        w2: word_at(bytes, place + 8),
+        w3: word_at(bytes, place + 12),
+    })
+}
+
+/// The entries of the lines of a bus, in the order of the lines.
+pub(crate) fn first_entries(
+    alloc: Global,
+    index: u32,
+    config: &Config,
+    image: &Image,
+) -> Result<Vec<Entry>, OutOfMemory>
+    requires bus { index < config.now.buses }
+    requires image { Fits config.now.base config.now.memory image.now }
+    ensures { IfOk result (λ entries. entries.items ≡ map (λ place. first_entry (numbers_of config.now) image.now (index + config.now.buses * place)) (range_with_len 0 (lines_of (numbers_of config.now) / config.now.buses))) }
+{
+    let bytes = loaded_bytes(alloc, image, config.base, config.memory)?;
+    let count = config.memory / 16 / config.buses;
+    let mut entries = Vec::with_capacity(alloc, count as usize)?;
+    for place in 0..count {
+        let line = index + config.buses * place;
+        entries.push(entry_at(bytes.as_slice(), line as usize))?;
+    }
+    Ok(entries)
+}
