@@ -1,5 +1,5 @@
 -- Posts that are taken one by one, and the due ones as one list.
-use Rattle.std.proofs.Common.{◌≡◌, ◌∙◌, ℕ, ◌-◌, ◌≤◌, ◌<◌, true, false, List, [], ◌∷◌, ◌++◌, filter, length, nat_le, nat_lt, refl, sym, ap, arith, append-nil}
+use Rattle.std.proofs.Common.{◌≡◌, ◌∙◌, ℕ, ◌-◌, ◌<◌, true, false, List, [], ◌∷◌, ◌++◌, filter, length, nat_le, nat_lt, refl, sym, ap, arith, append-nil}
 use Rattle.std.proofs.lemmas.Bool.Decides.{nat_tests}
 use Rattle.std.specs.List.{AllByRecursion}
 use Rattle.slack_base.specs.declared.messages.Ask.{Ask}
@@ -21,14 +21,8 @@ through_due base t before hart inbox out =
 not_due : (t due : ℕ) → t < due → nat_le due t ≡ false
 not_due t due h = grind (arith, nat_tests)
 
-is_due : (t due : ℕ) → due ≤ t → nat_le due t ≡ true
-is_due t due h = grind (arith, nat_tests)
-
 is_later : (t due : ℕ) → t < due → nat_lt t due ≡ true
 is_later t due h = grind (arith, nat_tests)
-
-not_later : (t due : ℕ) → due ≤ t → nat_lt t due ≡ false
-not_later t due h = grind (arith, nat_tests)
 
 pub none_due : (t : ℕ) (inbox : List Post) → AllByRecursion (λ p. t < p.due) inbox → due_by t inbox ≡ []
 none_due t [] h = refl

@@ -178,3 +178,6 @@ fn send(ask: Option<Ask>, out: &mut AskList) -> Result<(), OutOfMemory>
     }
     Ok(())
 }
+
+#[cfg(test)]
+mod tests;
