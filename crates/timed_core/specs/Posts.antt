@@ -53,6 +53,10 @@ retried core = record core { waiting = false; counts = record core.counts { retr
 abbrev pub snooped : ℕ → (own : Bool) → Inner → Inner
 snooped line own core = record core { cache = snoop_line core.cache line own; counts = record core.counts { snoops = raised core.counts.snoops } }
 
+-- another core takes the line: a reservation in it is lost too
+abbrev pub given_up : (base line : ℕ) → Inner → Inner
+given_up base line core = without_reservation base line (snooped line true core)
+
 -- the line's words, if the cache holds it
 abbrev pub flush_of : Id → ℕ → CacheView → Ask
 flush_of id line cache = Flush id line (option_map (λ l. l.words) (line_in cache line))
@@ -62,5 +66,5 @@ unfoldable pub applied : PostKind → (base line : ℕ) → Id → Inner → Inn
 applied (Reply exclusive words) base line id core = replied base line exclusive words id core
 applied Retry base line id core = (retried core, None)
 applied SnoopShare base line id core = (snooped line false core, Some (flush_of id line core.cache))
-applied SnoopOwn base line id core = (without_reservation base line (snooped line true core), Some (flush_of id line core.cache))
-applied Invalidate base line id core = (without_reservation base line (snooped line true core), None)
+applied SnoopOwn base line id core = (given_up base line core, Some (flush_of id line core.cache))
+applied Invalidate base line id core = (given_up base line core, None)

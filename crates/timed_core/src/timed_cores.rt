@@ -134,11 +134,7 @@ impl TimedCore {
     {
         let before = out.len();
         apply_due(&mut self.hart, &mut self.inbox, code.base(), cycle, out)?;
-        let id = Id {
-            cycle,
-            core: self.hart.number(),
-            number: (out.len() - before) as u64,
-        };
+        let id = id_at(cycle, &self.hart, out.len() - before);
         let ask = self.hart.step(code, id);
         send(ask, out)
     }
@@ -158,15 +154,22 @@ fn apply_due(
 {
     let before = out.len();
     while let Some(post) = inbox.take_due(cycle) {
-        let id = Id {
-            cycle,
-            core: hart.number(),
-            number: (out.len() - before) as u64,
-        };
+        let id = id_at(cycle, hart, out.len() - before);
         let ask = hart.apply(post.kind, base, post.line, id);
         send(ask, out)?;
     }
     Ok(())
+}
+
+/// The id of the next ask in a cycle, where so many were sent.
+fn id_at(cycle: u64, hart: &Hart, sent: usize) -> Id
+    ensures { result ≡ id_at cycle hart.now sent }
+{
+    Id {
+        cycle,
+        core: hart.number(),
+        number: sent as u64,
+    }
 }
 
 /// Appends the ask, if there is one.

@@ -1,6 +1,6 @@
 //! What posts do to a hart.
 ghost use Rattle.std.specs.Prelude.{◌≡◌};
-ghost use Rattle.timed_core.specs.Posts.{without_reservation, written_back, evicted, replied, retried, snooped, applied};
+ghost use Rattle.timed_core.specs.Posts.{without_reservation, written_back, evicted, replied, retried, snooped, given_up, applied};
 ghost use Rattle.mesi_cache.specs.Caches.{line_in};
 ghost use Rattle.std.specs.Option.{option_map};
 
@@ -26,13 +26,11 @@ impl Hart {
                 Some(Ask::Flush { id, line, words })
             }
             PostKind::SnoopOwn => {
-                let words = self.snoop(line, true);
-                self.lose_reservation(base, line);
+                let words = self.give_up(base, line);
                 Some(Ask::Flush { id, line, words })
             }
             PostKind::Invalidate => {
-                self.snoop(line, true);
-                self.lose_reservation(base, line);
+                self.give_up(base, line);
                 None
             }
         }
@@ -93,6 +91,16 @@ impl Hart {
     {
         self.waiting = false;
         self.counts.retries = raised(self.counts.retries);
+    }
+
+    /// Gives the line up, and a reservation in it: its words, if the cache holds it.
+    fn give_up(&mut self, base: u32, line: u32) -> Option<Words>
+        ensures after { self.new ≡ given_up base line self.old }
+        ensures words { result ≡ option_map (λ l. l.words) (line_in self.old.cache line) }
+    {
+        let words = self.snoop(line, true);
+        self.lose_reservation(base, line);
+        words
     }
 
     /// Another core takes the line (`own`) or reads it: its words, if the cache holds it.
