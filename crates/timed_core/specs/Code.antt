@@ -1,0 +1,24 @@
+-- The instruction memory: what fetches read.
+use Rattle.std.specs.Prelude.{ℕ, ◌+◌, ◌-◌, ◌%◌, ◌==◌, ◌&&◌, Bool, List, Option, Some, None, drop, length, nat_le, nat_lt, if◌then◌else◌}
+use Rattle.byteorder.specs.Endian.{little_number}
+use Rattle.memory_image.specs.Memory.{bytes_from}
+use Rattle.slack_base.specs.declared.images.Image.{Image}
+use Rattle.slack_base.specs.declared.limits.RawConfig.{RawConfig}
+
+-- the bytes of memory as they were loaded, from an address on
+pub record CodeValue : Type 0 where
+  pub base : ℕ
+  pub bytes : List ℕ
+
+-- the address is one of memory
+abbrev pub is_in_memory : CodeValue → ℕ → Bool
+is_in_memory code address = nat_le code.base address && nat_lt address (code.base + length code.bytes)
+
+-- the little-endian word at an address: none outside memory, and none off a multiple of 4
+unfoldable pub word_at : CodeValue → ℕ → Option ℕ
+word_at code address =
+    if is_in_memory code address && (address % 4 == 0) then Some (little_number 4 (drop (address - code.base) code.bytes)) else None
+
+-- the instruction memory of an image: so many bytes from base on
+abbrev pub code_of : Image → RawConfig → CodeValue
+code_of image config = record { base = config.base; bytes = bytes_from image.segments config.base config.memory }

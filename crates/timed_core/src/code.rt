@@ -1,0 +1,73 @@
+//! The instruction memory: the image as it was loaded, which fetches read and nothing writes.
+ghost use Rattle.std.specs.Prelude.{◌≡◌};
+
+use byteorder::{ByteOrder, LittleEndian};
+use memory_image::loaded_bytes;
+use slack_base::{Config, Image, OutOfMemory};
+use std::alloc::Global;
+use std::marker::Model;
+
+/// The bytes of memory as they were loaded.
+#[derive(Drop)]
+pub struct Code {
+    base: u32,
+    bytes: Vec<u8>,
+}
+
+impl Model for Code {
+    ghost use Rattle.std.specs.Prelude.{◌≡◌, ◌+◌, ◌%◌, ◌^◌, ◌≤◌, vec_len};
+    ghost use Rattle.timed_core.specs.Code.{CodeValue};
+
+    ghost Value = { CodeValue };
+
+    ghost view = { λ c. record { base = c.base; bytes = c.bytes.items } };
+
+    ghost invariant = { λ c. (c.base % 4 ≡ 0) × (vec_len c.bytes % 4 ≡ 0) × (c.base + vec_len c.bytes ≤ 2 ^ 32) };
+}
+
+impl Code {
+    ghost use Rattle.std.specs.Prelude.{◌≡◌, IfOk};
+    ghost use Rattle.slack_base.specs.Images.{Fits};
+    ghost use Rattle.slack_base.specs.Numbers.{numbers_of};
+    ghost use Rattle.timed_core.specs.Code.{word_at, is_in_memory, code_of};
+
+    /// The instruction memory of an image that fits the configuration.
+    pub fn of(alloc: Global, image: &Image, config: &Config) -> Result<Code, OutOfMemory>
+        requires { Fits config.now.base config.now.memory image.now }
+        ensures { IfOk result (λ code. code ≡ code_of image.now (numbers_of config.now)) }
+    {
+        Ok(Code {
+            base: config.base,
+            bytes: loaded_bytes(alloc, image, config.base, config.memory)?,
+        })
+    }
+
+    /// The least address of memory.
+    pub fn base(&self) -> u32
+        ensures { result ≡ self.now.base }
+    {
+        self.base
+    }
+
+    /// Whether the address is in memory.
+    pub fn is_in_memory(&self, address: u32) -> bool
+        ensures { result ≡ is_in_memory self.now address }
+    {
+        address >= self.base && ((address - self.base) as usize) < self.bytes.len()
+    }
+
+    /// The little-endian word at an address: none outside memory, and none off a multiple of 4.
+    #[tactic(auto, unfolding(crate::specs::Code::word_at))]
+    pub fn word(&self, address: u32) -> Option<u32>
+        ensures { result ≡ word_at self.now address }
+    {
+        if address < self.base || address % 4 != 0 {
+            return None;
+        }
+        let offset = (address - self.base) as usize;
+        if offset >= self.bytes.len() {
+            return None;
+        }
+        Some(LittleEndian::read_u32(&self.bytes[offset..]))
+    }
+}

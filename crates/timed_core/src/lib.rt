@@ -1,0 +1,13 @@
+//! A core of the machine: its registers, its cache and its inbox, and what it does in a cycle.
+#![tactic(auto)]
+
+pub mod accesses;
+pub mod code;
+pub mod effects;
+mod harts;
+pub mod timed_cores;
+
+pub use accesses::Access;
+pub use code::Code;
+pub use effects::Effect;
+pub use timed_cores::TimedCore;

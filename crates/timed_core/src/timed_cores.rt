@@ -1,0 +1,186 @@
+//! A core and its tick.
+ghost use Rattle.std.specs.Prelude.{◌≡◌, ◌≤◌, ◌^◌, ◌++◌, nat_le, nat_lt, filter, OnOk};
+ghost use Rattle.timed_core.specs.Ticks.{asks_of, id_at, applied_all};
+
+use crate::code::Code;
+use crate::harts::Hart;
+use mesi_cache::HeldLine;
+use slack_base::{Ask, AskList, Config, CoreEnd, Counts, Id, OutOfMemory, Post};
+use stamp_queue::Inbox;
+use std::alloc::Global;
+use std::marker::Model;
+
+/// A core: its registers, its cache, what is counted of it, and the posts that wait for it.
+#[derive(Drop)]
+pub struct TimedCore {
+    hart: Hart,
+    inbox: Inbox,
+}
+
+impl Model for TimedCore {
+    ghost use Rattle.timed_core.specs.Cores.{CoreValue, Inner};
+
+    ghost Value = { CoreValue Inner };
+
+    ghost view = { λ c. record { inner = c.hart; inbox = c.inbox } };
+}
+
+impl TimedCore {
+    ghost use Rattle.std.specs.Prelude.{◌≡◌, ◌<◌, ◌≤◌, ◌^◌, ◌++◌, [], IfOk, OnOk, OnErr, not, slice_index};
+    ghost use Rattle.slack_base.specs.Numbers.{numbers_of};
+    ghost use Rattle.stamp_queue.specs.Inbox.{with_post};
+    ghost use Rattle.timed_core.specs.Accesses.{held_in};
+    ghost use Rattle.timed_core.specs.Cores.{IsBy, first_core, is_running};
+    ghost use Rattle.timed_core.specs.Ticks.{tick_of};
+
+    /// A core before the first cycle, whose pc is `entry`.
+    pub fn new(
+        alloc: Global,
+        number: u32,
+        config: &Config,
+        entry: u32,
+    ) -> Result<TimedCore, OutOfMemory>
+        requires { number < config.now.cores }
+        ensures { IfOk result (λ core. core ≡ record { inner = first_core (numbers_of config.now) entry number; inbox = [] }) }
+    {
+        Ok(TimedCore {
+            hart: Hart::new(alloc, number, config, entry)?,
+            inbox: Inbox::new(alloc),
+        })
+    }
+
+    /// The core's number.
+    pub fn number(&self) -> u32
+        ensures { result ≡ self.now.inner.number }
+    {
+        self.hart.number()
+    }
+
+    /// The address of the next instruction.
+    pub fn pc(&self) -> u32
+        ensures { result ≡ self.now.inner.pc }
+    {
+        self.hart.pc()
+    }
+
+    /// The register of this number, below 32.
+    pub fn reg(&self, n: u32) -> u32
+        requires { n < 32 }
+        ensures { result ≡ slice_index self.now.inner.registers n }
+    {
+        self.hart.reg(n)
+    }
+
+    /// The address of the word that is reserved: none where there is no reservation.
+    pub fn reservation(&self) -> Option<u32>
+        ensures { result ≡ self.now.inner.reservation }
+    {
+        self.hart.reservation()
+    }
+
+    /// The state and the words of a line of memory: none where the core's cache doesn't hold it.
+    pub fn held(&self, line: u32) -> Option<HeldLine>
+        ensures { result ≡ held_in self.now.inner.cache line }
+    {
+        self.hart.held(line)
+    }
+
+    /// Whether the core is running, or how it ended.
+    pub fn end(&self) -> CoreEnd
+        ensures end { result ≡ self.now.inner.ended }
+        ensures bound { IsBy (2 ^ 62) result }
+    {
+        self.hart.end()
+    }
+
+    /// Whether the core is running.
+    pub fn is_running(&self) -> bool
+        ensures { result ≡ is_running self.now.inner.ended }
+    {
+        self.hart.is_running()
+    }
+
+    /// Whether the core has ended. It goes on applying posts.
+    pub fn has_ended(&self) -> bool
+        ensures { result ≡ not (is_running self.now.inner.ended) }
+    {
+        !self.hart.is_running()
+    }
+
+    /// What is counted of the core.
+    pub fn counts(&self) -> Counts
+        ensures { result ≡ self.now.inner.counts }
+    {
+        self.hart.counts()
+    }
+
+    /// Puts a post into the inbox, behind those of the same due and id that are there.
+    pub fn put(&mut self, post: Post) -> Result<(), OutOfMemory>
+        ensures ok { OnOk result (self.new ≡ record self.old { inbox = with_post self.old.inbox post }) }
+        ensures err { OnErr result (self.new ≡ self.old) }
+    {
+        self.inbox.put(post)
+    }
+
+    /// One tick at a cycle: the posts that are due are applied in their order, and then the core does nothing if it
+    /// has ended, spends a cycle if it is busy or waits for a line, and else executes an instruction. The asks that
+    /// it sends are appended, numbered from 0. `code` is of the machine that the core belongs to: what memory there
+    /// is, is read from it.
+    #[tactic(auto, unfolding(crate::specs::Ticks::tick_of, crate::specs::Ticks::tick))]
+    pub fn tick(&mut self, code: &Code, cycle: u64, out: &mut AskList) -> Result<(), OutOfMemory>
+        requires { cycle ≤ 2 ^ 62 }
+        ensures core { OnOk result (self.new ≡ (tick_of code.now cycle self.old).0) }
+        ensures asks { OnOk result (out.new ≡ out.old ++ (tick_of code.now cycle self.old).1) }
+    {
+        let before = out.len();
+        apply_due(&mut self.hart, &mut self.inbox, code.base(), cycle, out)?;
+        let id = id_at(cycle, &self.hart, out.len() - before);
+        let ask = self.hart.step(code, id);
+        send(ask, out)
+    }
+}
+
+/// Applies the posts that are due at a cycle, in the order of the inbox.
+fn apply_due(
+    hart: &mut Hart,
+    inbox: &mut Inbox,
+    base: u32,
+    cycle: u64,
+    out: &mut AskList,
+) -> Result<(), OutOfMemory>
+    ensures hart { OnOk result (hart.new ≡ (applied_all base cycle 0 hart.old (filter (λ p. nat_le p.due cycle) inbox.old)).0) }
+    ensures inbox { OnOk result (inbox.new ≡ filter (λ p. nat_lt cycle p.due) inbox.old) }
+    ensures asks { OnOk result (out.new ≡ out.old ++ (applied_all base cycle 0 hart.old (filter (λ p. nat_le p.due cycle) inbox.old)).1) }
+{
+    let before = out.len();
+    while let Some(post) = inbox.take_due(cycle) {
+        let id = id_at(cycle, hart, out.len() - before);
+        let ask = hart.apply(post.kind, base, post.line, id);
+        send(ask, out)?;
+    }
+    Ok(())
+}
+
+/// The id of the next ask in a cycle, where so many were sent.
+fn id_at(cycle: u64, hart: &Hart, sent: usize) -> Id
+    ensures { result ≡ id_at cycle hart.now sent }
+{
+    Id {
+        cycle,
+        core: hart.number(),
+        number: sent as u64,
+    }
+}
+
+/// Appends the ask, if there is one.
+fn send(ask: Option<Ask>, out: &mut AskList) -> Result<(), OutOfMemory>
+    ensures { OnOk result (out.new ≡ out.old ++ asks_of ask) }
+{
+    if let Some(ask) = ask {
+        out.push(ask)?;
+    }
+    Ok(())
+}
+
+#[cfg(test)]
+mod tests;
