@@ -83,16 +83,11 @@ abbrev pub is_reserved : Option ℕ → ℕ → Bool
 is_reserved None address = false
 is_reserved (Some reserved) address = reserved == address
 
--- an SC fails where its address isn't the reservation
-abbrev pub fails : Access → Option ℕ → ℕ → Bool
-fails (StoreConditional rd value) reservation address = not (is_reserved reservation address)
-fails _ reservation address = false
-
 -- an SC that fails gives 1, and loses the reservation; it accesses nothing
 abbrev pub failed : (rd cost : ℕ) → Inner → Inner
 failed rd cost core = gives rd 1 cost (with_reservation None core)
 
--- an access to memory: only an SC can fail, and the others look their line up
+-- an access to memory: an SC fails where its address isn't the reservation, and every other access looks its line up
 unfoldable pub tried : Access → (base address cost : ℕ) → Id → Inner → Inner × Option Ask
 tried (StoreConditional rd value) base address cost id core =
     if is_reserved core.reservation address

@@ -124,8 +124,8 @@ impl TimedCore {
 
     /// One tick at a cycle: the posts that are due are applied in their order, and then the core does nothing if it
     /// has ended, spends a cycle if it is busy or waits for a line, and else executes an instruction. The asks that
-    /// it sends are appended, numbered from 0. `code` is of the machine that the core belongs to: what memory there
-    /// is, is read from it.
+    /// it sends are appended, numbered from 0. `code` is the instruction memory of the core's machine, and tells which
+    /// addresses are in memory too. After want of memory the core may be changed in part, and is only to be dropped.
     #[tactic(auto, unfolding(crate::specs::Ticks::tick_of, crate::specs::Ticks::tick))]
     pub fn tick(&mut self, code: &Code, cycle: u64, out: &mut AskList) -> Result<(), OutOfMemory>
         requires { cycle ≤ 2 ^ 62 }
