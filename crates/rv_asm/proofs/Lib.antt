@@ -1,2 +1,5 @@
-pub mod Parts
 pub mod Digits
+pub mod Names
+pub mod Parts
+pub mod Places
+pub mod Searching

@@ -1,28 +1,35 @@
--- The parts of a text round the first element that passes a test.
-use Rattle.std.proofs.Common.{◌≡◌, ℕ, ◌+◌, ◌-◌, ◌<◌, ◌≤◌, Bool, true, false, cond, List, [], ◌∷◌, length, take, drop, Some, None, refl, sym, ap, ◌∙◌, arith, ltb}
-use Rattle.std.specs.List.{position, position_or_len, before_first, after_first}
+-- The parts of a text round the first byte that passes a test.
+use Rattle.std.proofs.Common.{◌≡◌, ℕ, ◌<◌, ◌≤◌, Bool, true, false, cond, List, length, Option, Some, None, option_and_then, refl, ap, arith, ltb, eqb}
+use Rattle.std.specs.List.{position_or_len, before_first, after_first}
 use Rattle.std.proofs.lemmas.Bool.Decides.{nat_tests}
-use Rattle.std.proofs.lemmas.List.{take_all, drop_all, take_rest}
-use Rattle.std.proofs.lemmas.List.Sums.{prefix_len-le-length}
+use Rattle.rv_asm.specs.Bytes.{parts_at}
 
--- where an element passes
-pub position_some : {X : Type 0} (p : X → Bool) (xs : List X) (at : ℕ) → Some at ≡ position p xs → (position_or_len p xs ≡ at) × (at < length xs)
-position_some p xs at h =
-    elim (ltb (position_or_len p xs) (length xs)) as (λ b. ltb (position_or_len p xs) (length xs) ≡ b → Some at ≡ cond b (Some (position_or_len p xs)) None → (position_or_len p xs ≡ at) × (at < length xs)) [
-      | true ↦ λ low e. let same : position_or_len p xs ≡ at = cc in (same, grind (arith, nat_tests))
-      | false ↦ λ low e. absurd cc
-    ] refl h
+-- what is given only where a test holds
+pub chosen_some : {A : Type 0} (b : Bool) (x y : A) → cond b (Some x) None ≡ Some y → (b ≡ true) × (x ≡ y)
+chosen_some true x y h = (refl, cc)
+chosen_some false x y h = absurd cc
 
--- where none does
-pub position_none : {X : Type 0} (p : X → Bool) (xs : List X) → None ≡ position p xs → length xs ≤ position_or_len p xs
-position_none p xs h =
-    elim (ltb (position_or_len p xs) (length xs)) as (λ b. ltb (position_or_len p xs) (length xs) ≡ b → None ≡ cond b (Some (position_or_len p xs)) None → length xs ≤ position_or_len p xs) [
-      | true ↦ λ low e. absurd cc
-      | false ↦ λ low e. grind (arith, nat_tests)
-    ] refl h
+pub chosen_none : {A : Type 0} (b : Bool) (x : A) → cond b (Some x) None ≡ None → b ≡ false
+chosen_none true x h = absurd cc
+chosen_none false x h = refl
 
-pub before_none : {X : Type 0} (p : X → Bool) (xs : List X) → length xs ≤ position_or_len p xs → before_first p xs ≡ xs
-before_none p xs h = take_all (position_or_len p xs) xs h
+pub bound_some : {A B : Type 0} (f : A → Option B) (o : Option A) (y : B) → option_and_then f o ≡ Some y → (x : A) × (o ≡ Some x) × (f x ≡ Some y)
+bound_some f None y h = absurd cc
+bound_some f (Some x) y h = (x, refl, h)
 
-pub after_none : {X : Type 0} (p : X → Bool) (xs : List X) → length xs ≤ position_or_len p xs → after_first p xs ≡ []
-after_none p xs h = drop_all (position_or_len p xs + 1) xs (omega arith)
+-- where the byte stands in the text
+pub parts_some : (byte : ℕ) (text : List ℕ) (parts : List ℕ × List ℕ) → parts_at byte text ≡ Some parts → (position_or_len (λ b. eqb b byte) text < length text) × (before_first (λ b. eqb b byte) text ≡ parts.0) × (after_first (λ b. eqb b byte) text ≡ parts.1)
+unfolding parts_at
+parts_some byte text parts h =
+    let whole : List ℕ × List ℕ = (before_first (λ b. eqb b byte) text, after_first (λ b. eqb b byte) text) in
+    let k = chosen_some (ltb (position_or_len (λ b. eqb b byte) text) (length text)) whole parts h in
+    let test = k.0 in
+    (grind (arith, nat_tests), ap (λ p. p.0) k.1, ap (λ p. p.1) k.1)
+
+-- where it doesn't
+pub parts_none : (byte : ℕ) (text : List ℕ) → parts_at byte text ≡ None → length text ≤ position_or_len (λ b. eqb b byte) text
+unfolding parts_at
+parts_none byte text h =
+    let whole : List ℕ × List ℕ = (before_first (λ b. eqb b byte) text, after_first (λ b. eqb b byte) text) in
+    let test = chosen_none (ltb (position_or_len (λ b. eqb b byte) text) (length text)) whole h in
+    grind (arith, nat_tests)

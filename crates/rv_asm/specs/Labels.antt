@@ -36,7 +36,7 @@ no_places name = None
 
 -- a label is defined at a place; where it was defined before, it keeps the first
 unfoldable pub with_label : ℕ → Places → List ℕ → Places
-with_label here places name other = option_or (places other) (if bytes_eq other name then Some here else None)
+with_label here places name other = option_or (places other) (if bytes_eq name other then Some here else None)
 
 -- the labels are defined at a place
 abbrev pub with_labels : ℕ → Places → List (List ℕ) → Places

@@ -76,7 +76,7 @@ pub(crate) fn define_labels<'a>(
     let mut redefines = false;
     while let Some((name, after)) = label_of(rest) {
         let before = labels.define(name, place)?;
-        redefines = redefines || before;
+        redefines |= before;
         rest = after;
     }
     Ok(Labelled {
