@@ -1,4 +1,6 @@
+pub mod Coding
 pub mod Digits
+pub mod InRange
 pub mod Names
 pub mod Parts
 pub mod Places

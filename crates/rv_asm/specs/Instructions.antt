@@ -1,6 +1,7 @@
 -- The instruction that a mnemonic and its operands make.
 use Rattle.std.specs.Prelude.{◌≡◌, ℕ, ℤ, pos, negsuc, List, Option, Some, None, Result, Ok, Err, codes, if◌then◌else◌}
 use Rattle.std.specs.List.{before_first, after_first}
+use Rattle.std.specs.Option.{ok_or}
 use Rattle.std.specs.Str.{bytes_eq}
 use Rattle.slack_base.specs.declared.faults.AsmKind.{AsmKind}
 use Rattle.slack_base.specs.declared.faults.AsmKind.TheVariants.{Mnemonic, Range}
@@ -149,20 +150,17 @@ pub data Code : Type 0 where
 abbrev pub checked : Instr → Result Code AsmKind
 checked instr = if is_in_range instr then Ok (Instruction instr) else Err Range
 
--- what the mnemonic stands for, if it is known
-abbrev pub known : Option Operation → Result Operation AsmKind
-known None = Err Mnemonic
-known (Some operation) = Ok operation
-
+-- a number as it is
 unfoldable pub data_of : List ℕ → Result Code AsmKind
 data_of text = do
   number ← number_of text
   word ← word_of number
   Ok (Data word)
 
+-- an instruction by its mnemonic, if it is known
 unfoldable pub operation_code : Places → ℕ → List ℕ → List ℕ → Result Code AsmKind
 operation_code places here name text = do
-  operation ← known (operation_of name)
+  operation ← ok_or (operation_of name) Mnemonic
   instr ← instruction places here operation text
   checked instr
 

@@ -1,18 +1,12 @@
 -- Reading that may find a fault of a line.
 use Rattle.std.specs.Prelude.{◌≡◌, Option, Some, None, Result, Ok, Err}
 use Rattle.slack_base.specs.declared.faults.AsmKind.{AsmKind}
-use Rattle.slack_base.specs.declared.faults.AsmKind.TheVariants.{Operand}
 
 -- a reading, and then another of what it gave: the first fault is that of both
 infixl 10 ◌>>=◌
 abbrev pub ◌>>=◌ : {A B : Type 0} → Result A AsmKind → (A → Result B AsmKind) → Result B AsmKind
 (Ok x) >>= f = f x
 (Err kind) >>= f = Err kind
-
--- what a form asks for, or the fault that it isn't there
-abbrev pub operand : {A : Type 0} → Option A → Result A AsmKind
-operand None = Err Operand
-operand (Some x) = Ok x
 
 -- what a function returned, seen by view, is what is read
 abbrev pub Gives : {X Y : Type 0} → (X → Y) → Result X AsmKind → Result Y AsmKind → Type 0

@@ -1,9 +1,10 @@
 -- The forms of operands.
 use Rattle.std.specs.Prelude.{ℕ, ℤ, pos, ◌*◌, ◌-ℤ◌, Bool, true, false, List, [], ◌∷◌, Option, Some, None, Result, Ok, Err, codes, if◌then◌else◌}
+use Rattle.std.specs.Option.{ok_or}
 use Rattle.slack_base.specs.declared.faults.AsmKind.{AsmKind}
 use Rattle.slack_base.specs.declared.faults.AsmKind.TheVariants.{Operand, Label}
 use Rattle.rv_asm.specs.Bytes.{is_name, trim, parts_at, without_suffix}
-use Rattle.rv_asm.specs.Kinds.{◌>>=◌, operand}
+use Rattle.rv_asm.specs.Kinds.{◌>>=◌}
 use Rattle.rv_asm.specs.Numbers.{number_of}
 use Rattle.rv_asm.specs.Registers.{register_of}
 
@@ -14,7 +15,7 @@ Places = List ℕ → Option ℕ
 -- two operands, divided by such a byte
 unfoldable pub divided : ℕ → List ℕ → Result (List ℕ × List ℕ) AsmKind
 divided byte text = do
-  parts ← operand (parts_at byte text)
+  parts ← ok_or (parts_at byte text) Operand
   Ok (trim parts.0, trim parts.1)
 
 -- the first of some operands, and the others
@@ -30,7 +31,7 @@ nothing (byte ∷ bytes) = Err Operand
 unfoldable pub memory : List ℕ → Result (List ℕ × ℕ) AsmKind
 memory text = do
   parts ← divided 40 text
-  inside ← operand (without_suffix (codes ")") parts.1)
+  inside ← ok_or (without_suffix (codes ")") parts.1) Operand
   base ← register_of (trim inside)
   Ok (parts.0, base)
 
@@ -52,15 +53,10 @@ displaced text = do
 abbrev pub distance : ℕ → ℕ → ℤ
 distance place from = pos (4 * place) -ℤ pos (4 * from)
 
--- the place of a label, if it is defined
-abbrev pub defined : Option ℕ → Result ℕ AsmKind
-defined None = Err Label
-defined (Some place) = Ok place
-
 -- where a label is, from this instruction
 unfoldable pub label_at : Places → ℕ → List ℕ → Result ℤ AsmKind
 label_at places here name = do
-  place ← defined (places name)
+  place ← ok_or (places name) Label
   Ok (distance place here)
 
 -- the target of a jump or branch: a label, or a number
