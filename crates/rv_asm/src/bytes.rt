@@ -60,7 +60,7 @@ pub(crate) fn all_printable(bytes: &[u8]) -> bool
 }
 
 /// The place of the first such byte.
-fn position_of(text: &[u8], byte: u8) -> Option<usize>
+pub(crate) fn position_of(text: &[u8], byte: u8) -> Option<usize>
     ensures { result ≡ position (λ b. b == byte) text.now }
 {
     text.iter().position(|b| *b == byte)
@@ -138,5 +138,15 @@ pub(crate) fn parts_at_blank(text: &[u8]) -> (&[u8], &[u8])
     match position_of_blank(text) {
         Some(at) => (&text[..at], &text[at + 1..]),
         None => (text, &[]),
+    }
+}
+
+/// What stands before the first such byte: all where there is none.
+pub(crate) fn before_byte(text: &[u8], byte: u8) -> &[u8]
+    ensures { result.now ≡ before_first (λ b. b == byte) text.now }
+{
+    match position_of(text, byte) {
+        Some(at) => &text[..at],
+        None => text,
     }
 }

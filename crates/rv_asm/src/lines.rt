@@ -1,22 +1,34 @@
 //! The lines of a text.
 ghost use Rattle.std.specs.Prelude.{◌≡◌, ◌<◌, ◌==◌, OnOk, IfOk, length};
+ghost use Rattle.std.specs.Str.Lines.{strip_carriage_return};
 ghost use Rattle.rv_asm.specs.Labels.{uncommented, with_labels, redefines};
 ghost use Rattle.rv_asm.specs.LabelTables.{places_in};
 ghost use Rattle.rv_asm.specs.Lines.{names, statement, has_statement, line_code, GivesLine, line_code_of, first_line, rest_of_lines};
 
-use crate::bytes::{all_printable, parts_at, trim};
+use crate::bytes::{all_printable, before_byte, position_of, trim};
 use crate::instructions::word_at;
 use crate::labels::{Labelled, Labels, define_labels};
 use slack_base::{AsmKind, OutOfMemory};
 
 /// The first line of a text that isn't empty, without its end, and the text after it.
+#[tactic(auto, unfolding(crate::specs::Lines::first_line, crate::specs::Lines::rest_of_lines))]
 pub(crate) fn first_line(text: &[u8]) -> (&[u8], &[u8])
     ensures line { result.0.now ≡ first_line text.now }
     ensures after { result.1.now ≡ rest_of_lines text.now }
 {
-    match parts_at(text, b'\n') {
-        Some((line, after)) => (line.strip_suffix(b"\r").unwrap_or(line), after),
+    match position_of(text, b'\n') {
+        Some(end) => (without_return(&text[..end]), &text[end + 1..]),
         None => (text, &[]),
+    }
+}
+
+/// The line without the one carriage return at its end, if it has one.
+fn without_return(line: &[u8]) -> &[u8]
+    ensures { result.now ≡ strip_carriage_return line.now }
+{
+    match line {
+        [front @ .., b'\r'] => front,
+        _ => line,
     }
 }
 
@@ -25,10 +37,7 @@ pub(crate) fn first_line(text: &[u8]) -> (&[u8], &[u8])
 fn uncommented(line: &[u8]) -> &[u8]
     ensures { result.now ≡ uncommented line.now }
 {
-    match parts_at(line, b'#') {
-        Some((before, _)) => trim(before),
-        None => trim(line),
-    }
+    trim(before_byte(line, b'#'))
 }
 
 /// Defines the labels of a line.
