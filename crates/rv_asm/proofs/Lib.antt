@@ -5,3 +5,5 @@ pub mod Names
 pub mod Parts
 pub mod Places
 pub mod Searching
+pub mod SoFar
+pub mod Steps

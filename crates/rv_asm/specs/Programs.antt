@@ -60,6 +60,11 @@ GivesBytes items (Ok bytes) read = (codes : List Code) × (read ≡ Ok codes) ×
 GivesBytes items (Err (errors.Fault fault)) read = read ≡ Err fault
 GivesBytes items (Err errors.OutOfMemory) read = Unit {0}
 
+-- a word is put at the end, if there is one, and the place after it is known
+abbrev pub PushesWord : List ℕ → List ℕ → ℕ → Option ℕ → ℕ → Type 0
+PushesWord old new here None after = (after ≡ here) × (new ≡ old)
+PushesWord old new here (Some word) after = (here < most_words) × (after ≡ here + 1) × (new ≡ old ++ to_le_bytes w32 word)
+
 -- the image of some words: one segment, which begins at base
 abbrev pub image_at : ℕ → List ℕ → Image
 image_at base bytes = record {

@@ -1,9 +1,9 @@
 //! Assembling a text.
-ghost use Rattle.std.specs.Prelude.{◌≡◌, ◌^◌, ◌<◌, ◌≤◌, ◌*◌, Err, IfOk, IsErrOf, length, vec_len};
+ghost use Rattle.std.specs.Prelude.{◌+◌, ◌==◌, not, if◌then◌else◌, IsSome, ◌≡◌, ◌^◌, ◌<◌, ◌≤◌, ◌*◌, Err, IfOk, IsErrOf, length, vec_len};
 ghost use Rattle.slack_base.specs.declared.faults.AsmFault.{AsmFault};
 ghost use Rattle.rv_asm.specs.declared.assembling.AsmError.TheVariants as errors;
 ghost use Rattle.rv_asm.specs.LabelTables.{places_in};
-ghost use Rattle.rv_asm.specs.Programs.{IsAssembly, GivesBytes, most_words, codes_from, places_of, program_of};
+ghost use Rattle.rv_asm.specs.Programs.{IsAssembly, GivesBytes, most_words, codes_from, places_of, program_of, PushesWord};
 ghost use Rattle.rv_asm.specs.Labels.{no_places};
 ghost use Rattle.std.specs.Str.Lines.{lines};
 
@@ -83,12 +83,18 @@ fn labels_of(alloc: Global, text: &[u8]) -> Result<Labels<'_>, OutOfMemory>
     while !rest.is_empty() {
         let (line, after) = first_line(rest);
         let labelled = define_line(&mut labels, line, place)?;
-        if !labelled.statement.is_empty() {
-            place += 1;
-        }
+        place = place_after(place, labelled.statement);
         rest = after;
     }
     Ok(labels)
+}
+
+/// The place after a statement: one word further, where there is one.
+fn place_after(here: u32, statement: &[u8]) -> u32
+    requires { here + 1 < 2 ^ 32 }
+    ensures { result ≡ (if not (length statement.now == 0) then here + 1 else here) }
+{
+    if statement.is_empty() { here } else { here + 1 }
 }
 
 /// The bytes of a text's words, least byte first, or the text's first fault.
@@ -106,19 +112,35 @@ fn bytes_of<'a>(alloc: Global, labels: &Labels<'a>, text: &'a [u8]) -> Result<Ve
         let (line, after) = first_line(rest);
         number += 1;
         let labelled = define_line(&mut before, line, place)?;
-        let word = line_word(labels, line, &labelled, place).map_err(|kind| fault_at(
-            number, kind,
-        ))?;
-        if let Some(word) = word {
-            if place >= MOST_WORDS {
-                return Err(fault_at(number, AsmKind::TooLong));
-            }
-            bytes.extend_from_slice(&word.to_le_bytes())?;
-            place += 1;
-        }
+        let word = match line_word(labels, line, &labelled, place) {
+            Ok(word) => word,
+            Err(kind) => return Err(fault_at(number, kind)),
+        };
+        place = push_word(&mut bytes, place, number, word)?;
         rest = after;
     }
     Ok(bytes)
+}
+
+/// Puts the word of a line at the end, if it has one, and answers the place after it. The line is too long where
+/// there are as many words as a program has at most.
+fn push_word(
+    bytes: &mut Vec<u8>,
+    here: u32,
+    line: u32,
+    word: Option<u32>,
+) -> Result<u32, AsmError>
+    ensures ok { IfOk result (PushesWord bytes.old.items bytes.new.items here word) }
+    ensures fault { (fault : AsmFault) → IsErrOf result (AsmError.Fault fault) → IsSome word × (most_words ≤ here) × (fault ≡ record { line = line; kind = AsmKind.TooLong }) }
+{
+    let Some(word) = word else {
+        return Ok(here);
+    };
+    if here >= MOST_WORDS {
+        return Err(fault_at(line, AsmKind::TooLong));
+    }
+    bytes.extend_from_slice(&word.to_le_bytes())?;
+    Ok(here + 1)
 }
 
 fn fault_at(line: u32, kind: AsmKind) -> AsmError
