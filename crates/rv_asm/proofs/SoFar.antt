@@ -2,19 +2,22 @@
 use Rattle.std.proofs.Common.{◌≡◌, ℕ, ◌+◌, ◌*◌, ◌^◌, ◌<◌, ◌≤◌, Bool, true, false, cond, List, [], ◌∷◌, ◌++◌, length, not, Option, Some, None, Result, Ok, Err, refl, sym, ap, ◌∙◌, subst, arith, eqb, leb, append_assoc, append-nil, length-append}
 use Rattle.std.specs.Int.{to_le_bytes, w32}
 use Rattle.std.specs.List.{list_all}
-use Rattle.std.specs.Option.{IfSome}
+use Rattle.std.specs.Result.{IsErrAnd}
 use Rattle.std.specs.Str.Lines.{lines}
 use Rattle.slack_base.specs.declared.faults.AsmKind.{AsmKind}
 use Rattle.slack_base.specs.declared.faults.AsmKind.TheVariants.{Byte, Twice, TooLong}
 use Rattle.slack_base.specs.declared.faults.AsmFault.{AsmFault}
 use Rattle.std.proofs.lemmas.Bool.Decides.{nat_tests}
+use Rattle.std.specs.Option.{IsSome}
+use Rattle.rv_asm.specs.declared.assembling.AsmError.{AsmError}
+use Rattle.rv_asm.specs.declared.assembling.AsmError.TheVariants.{Fault, OutOfMemory}
 use Rattle.rv_asm.specs.Bytes.{is_printable}
 use Rattle.rv_asm.specs.Instructions.{Code, Stands, code_of}
 use Rattle.rv_asm.specs.Kinds.{◌>>=◌}
 use Rattle.rv_asm.specs.Labels.{no_places, with_labels, redefines}
 use Rattle.rv_asm.specs.Lines.{names, statement, place_after, line_code, line_code_of, GivesLine, first_line, rest_of_lines}
 use Rattle.rv_asm.specs.Operands.{Places}
-use Rattle.rv_asm.specs.Programs.{codes_from, after_line, before_codes, with_front, AreWordsOf, most_words, PushesWord}
+use Rattle.rv_asm.specs.Programs.{codes_from, after_line, before_codes, with_front, AreWordsOf, most_words, GivesBytes, PushesWord}
 use Rattle.rv_asm.proofs.Steps.{lines_step, lines_none, rest_shorter}
 
 -- the bytes so far are words of the codes so far, and these with the codes of the rest are those of the text
@@ -124,8 +127,8 @@ words_more [] bytes word code h fits stands = (word, [], fits, stands, ap (λ b.
 words_more (first ∷ codes) bytes word code h fits stands =
     (h.0, h.1 ++ to_le_bytes w32 word, h.2, h.3, ap (λ b. b ++ to_le_bytes w32 word) h.4 ∙ append_assoc (to_le_bytes w32 h.0) h.1 (to_le_bytes w32 word), words_more codes h.1 word code h.5 fits stands)
 
-pub so_far_step : {places before : Places} {text : List ℕ} {number here : ℕ} {rest bytes : List ℕ} → (s : IsSoFar places text before number here rest bytes) (after_it : Places) (after : ℕ) (new : List ℕ) (word : Option ℕ) → 0 < length rest → after_it ≡ with_labels here before (names (first_line rest)) → GivesLine (Ok word) (line_code places before here (first_line rest)) → IfSome word (λ w. w < 2 ^ 32) → PushesWord bytes new here word after → IsSoFar places text after_it (number + 1) after (rest_of_lines rest) new
-so_far_step {places} {before} {text} {number} {here} {rest} {bytes} s after_it after new None some defined read fits pushed = record {
+pub so_far_step : {places before : Places} {text : List ℕ} {number here : ℕ} {rest bytes : List ℕ} → (s : IsSoFar places text before number here rest bytes) (after_it : Places) (after : ℕ) (new : List ℕ) (word : Option ℕ) → 0 < length rest → after_it ≡ with_labels here before (names (first_line rest)) → GivesLine (Ok word) (line_code places before here (first_line rest)) → PushesWord bytes new here word after → IsSoFar places text after_it (number + 1) after (rest_of_lines rest) new
+so_far_step {places} {before} {text} {number} {here} {rest} {bytes} s after_it after new None some defined read pushed = record {
   codes = s.codes;
   words = subst (AreWordsOf s.codes) (sym pushed.1) s.words;
   whole = ap (λ n. with_front s.codes (codes_from places after_it (number + 1 + 1) n (lines (rest_of_lines rest)))) pushed.0 ∙ ap (with_front s.codes) (codes_none places before after_it (number + 1) here rest some defined read) ∙ s.whole;
@@ -133,11 +136,31 @@ so_far_step {places} {before} {text} {number} {here} {rest} {bytes} s after_it a
   short = omega (arith, pushed.0, s.short);
   lines_before = omega (arith, rest_shorter rest some, s.lines_before);
 }
-so_far_step {places} {before} {text} {number} {here} {rest} {bytes} s after_it after new (Some word) some defined read fits pushed = record {
+so_far_step {places} {before} {text} {number} {here} {rest} {bytes} s after_it after new (Some word) some defined read pushed = record {
   codes = s.codes ++ read.0 ∷ [];
-  words = subst (AreWordsOf (s.codes ++ read.0 ∷ [])) (sym pushed.2) (words_more s.codes bytes word read.0 s.words fits read.2);
+  words = subst (AreWordsOf (s.codes ++ read.0 ∷ [])) (sym pushed.2) (words_more s.codes bytes word read.0 s.words pushed.3 read.2);
   whole = ap (λ n. with_front (s.codes ++ read.0 ∷ []) (codes_from places after_it (number + 1 + 1) n (lines (rest_of_lines rest)))) pushed.1 ∙ front_more s.codes read.0 (codes_from places after_it (number + 1 + 1) (here + 1) (lines (rest_of_lines rest))) ∙ ap (with_front s.codes) (codes_some places before after_it (number + 1) here rest read.0 some defined read.1 pushed.0) ∙ s.whole;
   size = ap length pushed.2 ∙ length-append bytes (to_le_bytes w32 word) ∙ (let e : length bytes + 4 ≡ 4 * after = omega (arith, s.size, pushed.1) in e);
   short = omega (arith, pushed.0, pushed.1);
   lines_before = omega (arith, rest_shorter rest some, s.lines_before);
 }
+
+-- what a line is, by what was read of it
+pub line_is : (places before : Places) (here : ℕ) (rest line said : List ℕ) (twice : Bool) → line ≡ first_line rest → twice ≡ redefines here before (names line) → said ≡ statement line → line_code_of places here line twice said ≡ line_code places before here (first_line rest)
+line_is places before here rest line said twice first again after =
+    ap (λ t. line_code_of places here line t said) again
+    ∙ ap (line_code_of places here line (redefines here before (names line))) after
+    ∙ ap (line_code places before here) first
+
+-- a fault of a word more is that of the text
+pub push_fault : {V : Type 0} (items : V → List ℕ) {places before : Places} {text : List ℕ} {number here : ℕ} {rest bytes : List ℕ} → IsSoFar places text before number here rest bytes → (word : Option ℕ) (error : AsmError) → 0 < length rest → GivesLine (Ok word) (line_code places before here (first_line rest)) → ((fault : AsmFault) → error ≡ Fault fault → IsSome word × (most_words ≤ here) × (fault ≡ record { line = number + 1; kind = TooLong })) → GivesBytes items (Err error) (codes_from places no_places 1 0 (lines text))
+push_fault items s word OutOfMemory some read why = tt
+push_fault items s None (Fault fault) some read why = let none = (why fault refl).0 in absurd cc
+push_fault items s (Some word) (Fault fault) some read why =
+    let w = why fault refl in
+    too_long s read.0 some read.1 w.1 ∙ sym (ap Err w.2)
+
+-- an error that is passed on
+pub passed_on : {V : Type 0} (items : V → List ℕ) (r : Result V AsmError) (error : AsmError) (read : Result (List Code) AsmFault) → IsErrAnd r (λ e. e ≡ error) → GivesBytes items (Err error) read → GivesBytes items r read
+passed_on items (Ok v) error read h k = absurd h
+passed_on {V = V} items (Err e) error read h k = subst (λ x. GivesBytes {V = V} items (Err x) read) (sym h) k

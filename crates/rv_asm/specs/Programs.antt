@@ -63,7 +63,8 @@ GivesBytes items (Err errors.OutOfMemory) read = Unit {0}
 -- a word is put at the end, if there is one, and the place after it is known
 abbrev pub PushesWord : List ℕ → List ℕ → ℕ → Option ℕ → ℕ → Type 0
 PushesWord old new here None after = (after ≡ here) × (new ≡ old)
-PushesWord old new here (Some word) after = (here < most_words) × (after ≡ here + 1) × (new ≡ old ++ to_le_bytes w32 word)
+PushesWord old new here (Some word) after =
+    (here < most_words) × (after ≡ here + 1) × (new ≡ old ++ to_le_bytes w32 word) × (word < 2 ^ 32)
 
 -- the image of some words: one segment, which begins at base
 abbrev pub image_at : ℕ → List ℕ → Image
