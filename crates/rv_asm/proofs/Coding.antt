@@ -1,5 +1,5 @@
 -- The code of an instruction, from what its parts are.
-use Rattle.std.proofs.Common.{◌≡◌, ℕ, Bool, true, false, cond, List, Ok, Err, Result, refl, ap, ◌∙◌}
+use Rattle.std.proofs.Common.{◌≡◌, ℕ, Bool, cond, List, Ok, Err, Result, ap, ◌∙◌}
 use Rattle.std.specs.Option.{ok_or}
 use Rattle.slack_base.specs.declared.faults.AsmKind.{AsmKind}
 use Rattle.slack_base.specs.declared.faults.AsmKind.TheVariants.{Mnemonic, Range}

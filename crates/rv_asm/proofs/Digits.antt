@@ -7,7 +7,7 @@ use Rattle.std.specs.Str.Parse.{digits_value}
 use Rattle.std.proofs.lemmas.Bool.Decides.{nat_tests}
 use Rattle.std.proofs.lemmas.Int.Digits.{digits_value_is, digits_value_more, number_after_append, number_after_ge}
 use Rattle.std.proofs.lemmas.List.{take-append-drop, map-append, take_all, get_or_default}
-use Rattle.std.proofs.lemmas.List.Folds.{list_all_at, list_all_more}
+use Rattle.std.proofs.lemmas.List.Folds.{list_all_at}
 use Rattle.std.proofs.lemmas.List.Sums.{list_all-from_AllPass}
 use Rattle.std.proofs.lemmas.Bool.{lt-ltb, cases_lt}
 use Rattle.slack_base.specs.declared.faults.AsmKind.TheVariants.{Operand}
@@ -17,11 +17,11 @@ use Rattle.rv_asm.specs.Numbers.{are_digits, digits_of}
 pub value_take_le : (radix k : ℕ) (ds : List ℕ) → 0 < radix → digits_value radix (take k ds) ≤ digits_value radix ds
 value_take_le radix k ds h =
     let parts : map digit_value ds ≡ map digit_value (take k ds) ++ map digit_value (drop k ds) =
-        ap (map digit_value) (sym (take-append-drop k ds)) ∙ map-append digit_value (take k ds) (drop k ds) in
+    ap (map digit_value) (sym (take-append-drop k ds)) ∙ map-append digit_value (take k ds) (drop k ds) in
     let all : digits_value radix ds ≡ number_from_digits_after radix (digits_value radix (take k ds)) (map digit_value (drop k ds)) =
-        digits_value_is radix ds ∙ ap (number_from_digits radix) parts
-        ∙ number_after_append radix 0 (map digit_value (take k ds)) (map digit_value (drop k ds))
-        ∙ ap (λ n. number_from_digits_after radix n (map digit_value (drop k ds))) (sym (digits_value_is radix (take k ds))) in
+    digits_value_is radix ds ∙ ap (number_from_digits radix) parts
+    ∙ number_after_append radix 0 (map digit_value (take k ds)) (map digit_value (drop k ds))
+    ∙ ap (λ n. number_from_digits_after radix n (map digit_value (drop k ds))) (sym (digits_value_is radix (take k ds))) in
     omega (arith, all, number_after_ge radix (digits_value radix (take k ds)) (map digit_value (drop k ds)) h)
 
 and_false : (b c : Bool) → c ≡ false → (b && c) ≡ false
@@ -78,7 +78,7 @@ unfolding digits_of
 all_read radix i n ds some end small same each =
     let whole : n ≡ digits_value radix ds = same ∙ ap (digits_value radix) (take_all i ds end) in
     let digits : list_all (λ byte. ltb (digit_value byte) radix) ds ≡ true =
-        list_all-from_AllPass (λ byte. ltb (digit_value byte) radix) ds (λ k d low. let here = each k (omega arith) in ap (λ b. ltb (digit_value b) radix) (get_or_default ds k d 0 low) ∙ lt-ltb _ _ here) in
+    list_all-from_AllPass (λ byte. ltb (digit_value byte) radix) ds (λ k d low. let here = each k (omega arith) in ap (λ b. ltb (digit_value b) radix) (get_or_default ds k d 0 low) ∙ lt-ltb _ _ here) in
     let fits : ltb (digits_value radix ds) (2 ^ 32) ≡ true = lt-ltb _ _ (subst (λ v. v < 2 ^ 32) whole small) in
     let test = all_true _ _ _ (lt-ltb 0 (length ds) some) digits fits in
     ap Ok whole ∙ sym (ap (λ b. cond b (Ok (digits_value radix ds)) (Err Operand)) test)

@@ -1,6 +1,6 @@
 -- The labels that a text begins with, one after another.
-use Rattle.std.proofs.Common.{◌≡◌, ℕ, ◌+◌, ◌<◌, ◌≤◌, true, false, cond, List, [], ◌∷◌, length, drop, get_or, Bool, Option, Some, None, option_and_then, is_some, ◌||◌, refl, sym, ap, ◌∙◌, arith, eqb, length-drop}
-use Rattle.std.specs.List.{position_or_len, before_first, after_first, slice_split, join_with_byte, count_by}
+use Rattle.std.proofs.Common.{◌≡◌, ℕ, ◌+◌, ◌<◌, ◌≤◌, true, false, cond, List, [], ◌∷◌, length, Bool, Option, Some, None, option_and_then, is_some, ◌||◌, refl, sym, ap, ◌∙◌, arith, eqb, length-drop}
+use Rattle.std.specs.List.{position_or_len, before_first, after_first, slice_split, join_with_byte}
 use Rattle.std.proofs.lemmas.List.Splits.{slice_split_none, slice_split_first, length-slice_split, join_with_byte-slice_split}
 use Rattle.std.proofs.lemmas.List.Sums.{fails_before_first}
 use Rattle.rv_asm.specs.Bytes.{is_name, trim_start, parts_at}
@@ -93,13 +93,14 @@ some_or false b c = refl
 pub label_step : (here : ℕ) (places after_it : Places) (text name after : List ℕ) (twice before : Bool) → label_of text ≡ Some (name, after) → after_it ≡ with_label here places name → before ≡ is_some (places name) → (with_labels here after_it (names_of after) ≡ with_labels here places (names_of text)) × (statement_of after ≡ statement_of text) × (((twice || before) || redefines here after_it (names_of after)) ≡ (twice || redefines here places (names_of text)))
 unfolding redefines
 label_step here places after_it text name after twice before h same was =
-    let starts = label_some text name after h in
-    (ap (λ p. with_labels here p (names_of after)) same ∙ sym (ap (with_labels here places) starts.names),
-    sym starts.statement,
-    ap (λ b. (twice || b) || redefines here after_it (names_of after)) was
-    ∙ ap (λ p. (twice || is_some (places name)) || redefines here p (names_of after)) same
-    ∙ some_or twice (is_some (places name)) (redefines here (with_label here places name) (names_of after))
-    ∙ sym (ap (λ names. twice || redefines here places names) starts.names))
+    let starts = label_some text name after h in (
+      ap (λ p. with_labels here p (names_of after)) same ∙ sym (ap (with_labels here places) starts.names),
+      sym starts.statement,
+      ap (λ b. (twice || b) || redefines here after_it (names_of after)) was
+          ∙ ap (λ p. (twice || is_some (places name)) || redefines here p (names_of after)) same
+          ∙ some_or twice (is_some (places name)) (redefines here (with_label here places name) (names_of after))
+          ∙ sym (ap (λ names. twice || redefines here places names) starts.names),
+    )
 
 -- no label more
 pub label_end : (here : ℕ) (places : Places) (text : List ℕ) (twice : Bool) → label_of text ≡ None → (places ≡ with_labels here places (names_of text)) × (trim_start text ≡ statement_of text) × (twice ≡ (twice || redefines here places (names_of text)))
@@ -108,9 +109,9 @@ label_end here places text twice h =
     let none = label_none text h in
     (sym (ap (with_labels here places) none.0), sym none.1, sym (ap (λ names. twice || redefines here places names) none.0 ∙ or_false twice))
   where
-  or_false : (b : Bool) → (b || false) ≡ b
-  or_false true = refl
-  or_false false = refl
+    or_false : (b : Bool) → (b || false) ≡ b
+    or_false true = refl
+    or_false false = refl
 
 pub label_shorter : (text name after : List ℕ) → label_of text ≡ Some (name, after) → length after < length text
 label_shorter text name after h = (label_some text name after h).shorter

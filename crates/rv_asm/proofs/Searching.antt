@@ -1,9 +1,9 @@
 -- A search in a table in order.
-use Rattle.std.proofs.Common.{◌≡◌, ℕ, ◌+◌, ◌<◌, ◌≤◌, Bool, true, false, cond, List, [], ◌∷◌, length, get_or, map, Option, Some, None, Result, Ok, Err, refl, sym, ap, ◌∙◌, subst, arith, ◌&&◌, zero, suc, Bor, inl, inr}
-use Rattle.std.specs.Cmp.Lexicographic.{slice_cmp, pointwise}
-use Rattle.std.specs.List.{AllByRecursion, HoldsAt}
-use Rattle.std.specs.List.Sorted.{IsStrictlySortedBy, IsSortedBy, IsNonDecreasingBy, IsPartitionPoint, IsBinarySearchResult, IsSearchInRange}
-use Rattle.std.specs.Map.{lookup, keys_of}
+use Rattle.std.proofs.Common.{◌≡◌, ℕ, ◌+◌, ◌<◌, Bool, true, false, cond, List, [], ◌∷◌, length, get_or, Some, None, Result, Ok, Err, refl, sym, ap, ◌∙◌, subst, arith, ◌&&◌, zero, suc, Bor, inl, inr}
+use Rattle.std.specs.Cmp.Lexicographic.{slice_cmp}
+use Rattle.std.specs.List.{AllByRecursion}
+use Rattle.std.specs.List.Sorted.{IsNonDecreasingBy, IsPartitionPoint, IsBinarySearchResult, IsSearchInRange}
+use Rattle.std.specs.Map.{lookup}
 use Rattle.std.specs.Ordering.{nat_cmp, is_lt, is_eq, ordering_index, ordering_reverse}
 use Rattle.std.specs.Result.{result_ok}
 use Rattle.std.specs.Str.{bytes_eq}
@@ -11,7 +11,6 @@ use Rattle.std.specs.declared.cmp.Ordering.{Ordering}
 use Rattle.std.specs.declared.cmp.Ordering.TheVariants.{Less, Equal, Greater}
 use Rattle.std.proofs.lemmas.Cmp.{nat_list_cmp_total}
 use Rattle.std.proofs.lemmas.List.Sorted.{searchable_from_sorted}
-use Rattle.std.proofs.lemmas.Map.Lookups.{exact_bytes}
 use Rattle.std.proofs.lemmas.Map.Text.{is_eq-slice_cmp}
 use Rattle.std.proofs.lemmas.Slice.Eq.{bytes_eq-Decides}
 use Rattle.std.proofs.lemmas.Cmp.{tied_itself}
@@ -73,26 +72,26 @@ found name (row ∷ table) (suc at) d sorted low e =
     found name table at d (rest_sorted row table sorted) (omega arith) e
     ∙ sym (ap (λ b. cond b (Some row.1) (lookup (bytes_eq name) (rows_of table))) (differs row.0.now name (λ same. none_above row.0.now table below at d (omega arith) (subst (λ n. order (get_or table at d).0.now n ≡ Equal) same e))))
   where
-  differs : (a name : List ℕ) → (name ≡ a → ⊥) → bytes_eq name a ≡ false
-  differs a name h =
-      elim (bytes_eq name a) as (λ b. bytes_eq name a ≡ b → b ≡ false) [
-        | true ↦ λ e. absurd (h ((bytes_eq-Decides name a).0 e))
-        | false ↦ λ e. refl
-      ] refl
+    differs : (a name : List ℕ) → (name ≡ a → ⊥) → bytes_eq name a ≡ false
+    differs a name h =
+        elim (bytes_eq name a) as (λ b. bytes_eq name a ≡ b → b ≡ false) [
+          | true ↦ λ e. absurd (h ((bytes_eq-Decides name a).0 e))
+          | false ↦ λ e. refl
+        ] refl
 
 -- where no row has the name
 pub absent : {X : Type 0} → (name : List ℕ) (table : List (Bor (List ℕ) × X)) → ((k : ℕ) (d : Bor (List ℕ) × X) → k < length table → order (get_or table k d).0.now name ≡ Equal → ⊥) → entry_in (rows_of table) name ≡ None
 absent name [] h = refl
 absent {X} name (row ∷ table) h =
     ap (λ b. cond b (Some row.1) (lookup (bytes_eq name) (rows_of table)))
-      (elim (bytes_eq name row.0.now) as (λ b. bytes_eq name row.0.now ≡ b → b ≡ false) [
-        | true ↦ λ e. absurd (h 0 row (omega arith) (equal ((bytes_eq-Decides name row.0.now).0 e)))
-        | false ↦ λ e. refl
-      ] refl)
+    (elim (bytes_eq name row.0.now) as (λ b. bytes_eq name row.0.now ≡ b → b ≡ false) [
+      | true ↦ λ e. absurd (h 0 row (omega arith) (equal ((bytes_eq-Decides name row.0.now).0 e)))
+      | false ↦ λ e. refl
+    ] refl)
     ∙ absent name table (λ k d low. h (suc k) d (omega arith))
   where
-  equal : {name a : List ℕ} → name ≡ a → order a name ≡ Equal
-  equal {name} {a} h = subst (λ n. order a n ≡ Equal) (sym h) (tied_itself nat_list_cmp_total a)
+    equal : {name a : List ℕ} → name ≡ a → order a name ≡ Equal
+    equal {name} {a} h = subst (λ n. order a n ≡ Equal) (sym h) (tied_itself nat_list_cmp_total a)
 
 sorted_within : {X : Type 0} → (table : List (Bor (List ℕ) × X)) → is_sorted (rows_of table) ≡ true → (k : ℕ) (d : Bor (List ℕ) × X) → k + 1 < length table → is_lt (order (get_or table (k + 1) d).0.now (get_or table k d).0.now) ≡ false
 sorted_within [] h k d low = absurd (omega arith)
@@ -114,10 +113,10 @@ pub missed : {X : Type 0} → (name : List ℕ) (table : List (Bor (List ℕ) ×
 missed name table at h k =
     let point = k (searchable name table h) in
     absent name table (λ i d low e.
-        elim (cases_lt i at) [
-          | inl before ↦ let less = point.0 i d (omega arith) before in absurd cc
-          | inr after ↦ let greater = point.1 i d after low in absurd cc
-        ])
+    elim (cases_lt i at) [
+      | inl before ↦ let less = point.0 i d (omega arith) before in absurd cc
+      | inr after ↦ let greater = point.1 i d after low in absurd cc
+    ])
 
 -- what a search answers
 pub missed_by : {X : Type 0} → (name : List ℕ) (table : List (Bor (List ℕ) × X)) (r : Result ℕ ℕ) → is_sorted (rows_of table) ≡ true → result_ok r ≡ None → IsBinarySearchResult (λ row. order row.0.now name) table r → entry_in (rows_of table) name ≡ None

@@ -17,7 +17,7 @@ use Rattle.rv_asm.specs.Kinds.{◌>>=◌}
 use Rattle.rv_asm.specs.Labels.{no_places, with_labels, redefines}
 use Rattle.rv_asm.specs.Lines.{names, statement, place_after, line_code, line_code_of, GivesLine, first_line, rest_of_lines}
 use Rattle.rv_asm.specs.Operands.{Places}
-use Rattle.rv_asm.specs.Programs.{codes_from, after_line, before_codes, with_front, AreWordsOf, most_words, GivesBytes, PushesWord}
+use Rattle.rv_asm.specs.Programs.{codes_from, after_line, with_front, AreWordsOf, most_words, GivesBytes, PushesWord}
 use Rattle.rv_asm.proofs.Steps.{lines_step, lines_none, rest_shorter}
 
 -- the bytes so far are words of the codes so far, and these with the codes of the rest are those of the text

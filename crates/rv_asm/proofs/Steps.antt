@@ -1,21 +1,15 @@
 -- From line to line.
-use Rattle.std.proofs.Common.{◌≡◌, ℕ, ◌+◌, ◌*◌, ◌^◌, ◌<◌, ◌≤◌, Bool, true, false, cond, List, [], ◌∷◌, ◌++◌, length, not, Option, Some, None, Result, Ok, Err, refl, sym, ap, ◌∙◌, subst, arith, eqb, ltb, inl, inr, append_assoc, append-nil, length-append}
-use Rattle.std.specs.Int.{to_le_bytes, w32}
+use Rattle.std.proofs.Common.{◌≡◌, ℕ, ◌+◌, ◌<◌, ◌≤◌, Bool, true, false, cond, List, [], ◌∷◌, length, not, refl, sym, ap, ◌∙◌, arith, eqb, ltb, inl, inr}
 use Rattle.std.specs.List.{position_or_len, before_first, after_first, slice_split}
 use Rattle.std.specs.Str.Lines.{lines, lines_of_parts, strip_carriage_return}
-use Rattle.slack_base.specs.declared.faults.AsmKind.{AsmKind}
-use Rattle.slack_base.specs.declared.faults.AsmKind.TheVariants.{TooLong}
-use Rattle.slack_base.specs.declared.faults.AsmFault.{AsmFault}
 use Rattle.std.proofs.lemmas.Bool.Decides.{nat_tests}
 use Rattle.std.proofs.lemmas.Bool.{cases_lt}
 use Rattle.std.proofs.lemmas.List.{drop_all, length-drop}
 use Rattle.std.proofs.lemmas.List.Splits.{slice_split_none, slice_split_first, length-slice_split}
 use Rattle.std.proofs.lemmas.List.Sums.{fails_before_first}
-use Rattle.rv_asm.specs.Instructions.{Code, Stands}
-use Rattle.rv_asm.specs.Labels.{no_places, with_labels}
-use Rattle.rv_asm.specs.Lines.{names, statement, has_statement, place_after, places_from, line_code, line_code_of, statement_code, first_line, rest_of_lines}
+use Rattle.rv_asm.specs.Labels.{with_labels}
+use Rattle.rv_asm.specs.Lines.{names, statement, place_after, places_from, first_line, rest_of_lines}
 use Rattle.rv_asm.specs.Operands.{Places}
-use Rattle.rv_asm.specs.Programs.{codes_from, with_front, AreWordsOf, most_words, PushesWord}
 
 abbrev is_feed : ℕ → Bool
 is_feed byte = eqb byte 10

@@ -1,5 +1,5 @@
 -- The instruction that a mnemonic and its operands make.
-use Rattle.std.specs.Prelude.{◌≡◌, ℕ, ℤ, pos, negsuc, List, Option, Some, None, Result, Ok, Err, codes, if◌then◌else◌}
+use Rattle.std.specs.Prelude.{◌≡◌, ℕ, ℤ, pos, negsuc, List, Result, Ok, Err, codes, if◌then◌else◌}
 use Rattle.std.specs.List.{before_first, after_first}
 use Rattle.std.specs.Option.{ok_or}
 use Rattle.std.specs.Str.{bytes_eq}
@@ -8,7 +8,6 @@ use Rattle.slack_base.specs.declared.faults.AsmKind.TheVariants.{Mnemonic, Range
 use Rattle.slack_base.specs.declared.instructions.Instr.{Instr}
 use Rattle.slack_base.specs.declared.instructions.Instr.TheVariants.{Lui, Auipc, Jal, Jalr, Branch, Load, Store, Imm, Shift, Reg, Lr, Sc, Amo, Fence, Ecall, Ebreak}
 use Rattle.slack_base.specs.declared.instructions.ImmOp.TheVariants.{Addi, Xori}
-use Rattle.slack_base.specs.declared.instructions.BranchOp.{BranchOp}
 use Rattle.slack_base.specs.declared.instructions.RegOp.TheVariants.{Sub}
 use Rattle.rv_decode.specs.Encodes.{Encodes}
 use Rattle.rv_asm.specs.declared.operations.Operation.{Operation}
@@ -17,7 +16,7 @@ use Rattle.rv_asm.specs.Bytes.{is_blank, trim_start}
 use Rattle.rv_asm.specs.Kinds.{◌>>=◌}
 use Rattle.rv_asm.specs.Mnemonics.{operation_of}
 use Rattle.rv_asm.specs.Numbers.{number_of}
-use Rattle.rv_asm.specs.Operands.{Places, nothing, address, displaced, target, registers_2, registers_3, register_and, registers_and}
+use Rattle.rv_asm.specs.Operands.{Places, nothing, address, displaced, target, two_registers, three_registers, register_and, two_registers_and}
 use Rattle.rv_asm.specs.Ranges.{is_in_range, signed, unsigned, word_of}
 
 -- a register and a number without a sign
@@ -46,7 +45,7 @@ register_target places here text = do
 
 unfoldable pub registers_target : Places → ℕ → List ℕ → Result (ℕ × ℕ × ℤ) AsmKind
 registers_target places here text = do
-  two ← registers_and text
+  two ← two_registers_and text
   distance ← target places here two.2
   offset ← signed distance
   Ok (two.0, two.1, offset)
@@ -54,14 +53,14 @@ registers_target places here text = do
 -- two registers and a number
 unfoldable pub registers_number : List ℕ → Result (ℕ × ℕ × ℤ) AsmKind
 registers_number text = do
-  two ← registers_and text
+  two ← two_registers_and text
   number ← number_of two.2
   Ok (two.0, two.1, number)
 
 -- two registers, and one in brackets
 unfoldable pub registers_address : List ℕ → Result (ℕ × ℕ × ℕ) AsmKind
 registers_address text = do
-  two ← registers_and text
+  two ← two_registers_and text
   base ← address two.2
   Ok (two.0, two.1, base)
 
@@ -97,7 +96,7 @@ instruction places here (op.Shift o) text = do
   amount ← unsigned fields.2
   Ok (Shift o fields.0 fields.1 amount)
 instruction places here (op.Reg o) text = do
-  fields ← registers_3 text
+  fields ← three_registers text
   Ok (Reg o fields.0 fields.1 fields.2)
 instruction places here (op.Lr aq rl) text = do
   first ← register_and text
@@ -122,13 +121,13 @@ instruction places here op.Nop text = do
   _ ← nothing text
   Ok (Imm Addi 0 0 (pos 0))
 instruction places here op.Mv text = do
-  fields ← registers_2 text
+  fields ← two_registers text
   Ok (Imm Addi fields.0 fields.1 (pos 0))
 instruction places here op.Not text = do
-  fields ← registers_2 text
+  fields ← two_registers text
   Ok (Imm Xori fields.0 fields.1 (negsuc 0))
 instruction places here op.Neg text = do
-  fields ← registers_2 text
+  fields ← two_registers text
   Ok (Reg Sub fields.0 0 fields.1)
 instruction places here op.J text = do
   distance ← target places here text

@@ -1,5 +1,4 @@
 -- What a table of labels says.
-use Rattle.std.specs.Prelude.{ℕ}
 use Rattle.std.specs.BTreeMap.{get_by}
 use Rattle.std.specs.Cmp.Lexicographic.{slice_cmp}
 use Rattle.std.specs.Ordering.{nat_cmp}

@@ -16,13 +16,9 @@ names line = names_of (uncommented line)
 abbrev pub statement : List ℕ → List ℕ
 statement line = statement_of (uncommented line)
 
--- whether anything stands after the labels: it takes one word
-abbrev pub has_statement : List ℕ → Bool
-has_statement line = not (length (statement line) == 0)
-
--- the place after a line
+-- the place after a line: what stands after the labels, if anything, takes one word
 unfoldable pub place_after : ℕ → List ℕ → ℕ
-place_after here line = if has_statement line then here + 1 else here
+place_after here line = if not (length (statement line) == 0) then here + 1 else here
 
 -- the labels of a text, from a place on
 unfoldable pub places_from : Places → ℕ → List (List ℕ) → Places

@@ -1,5 +1,5 @@
 -- The forms of operands.
-use Rattle.std.specs.Prelude.{ℕ, ℤ, pos, ◌*◌, ◌-ℤ◌, Bool, true, false, List, [], ◌∷◌, Option, Some, None, Result, Ok, Err, codes, if◌then◌else◌}
+use Rattle.std.specs.Prelude.{ℕ, ℤ, pos, ◌*◌, ◌-ℤ◌, List, [], ◌∷◌, Option, Result, Ok, Err, codes, if◌then◌else◌}
 use Rattle.std.specs.Option.{ok_or}
 use Rattle.slack_base.specs.declared.faults.AsmKind.{AsmKind}
 use Rattle.slack_base.specs.declared.faults.AsmKind.TheVariants.{Operand, Label}
@@ -64,19 +64,19 @@ unfoldable pub target : Places → ℕ → List ℕ → Result ℤ AsmKind
 target places here text = if is_name text then label_at places here text else number_of text
 
 -- two registers
-unfoldable pub registers_2 : List ℕ → Result (ℕ × ℕ) AsmKind
-registers_2 text = do
+unfoldable pub two_registers : List ℕ → Result (ℕ × ℕ) AsmKind
+two_registers text = do
   parts ← first_of text
   first ← register_of parts.0
   second ← register_of parts.1
   Ok (first, second)
 
 -- three registers
-unfoldable pub registers_3 : List ℕ → Result (ℕ × ℕ × ℕ) AsmKind
-registers_3 text = do
+unfoldable pub three_registers : List ℕ → Result (ℕ × ℕ × ℕ) AsmKind
+three_registers text = do
   parts ← first_of text
   first ← register_of parts.0
-  others ← registers_2 parts.1
+  others ← two_registers parts.1
   Ok (first, others.0, others.1)
 
 -- a register, and the text of the last operand
@@ -87,8 +87,8 @@ register_and text = do
   Ok (first, parts.1)
 
 -- two registers, and the text of the last operand
-unfoldable pub registers_and : List ℕ → Result (ℕ × ℕ × List ℕ) AsmKind
-registers_and text = do
+unfoldable pub two_registers_and : List ℕ → Result (ℕ × ℕ × List ℕ) AsmKind
+two_registers_and text = do
   first ← register_and text
   second ← register_and first.1
   Ok (first.0, second.0, second.1)

@@ -5,7 +5,6 @@ use Rattle.std.specs.Str.Lines.{lines}
 use Rattle.slack_base.specs.declared.faults.AsmKind.{AsmKind}
 use Rattle.slack_base.specs.declared.faults.AsmKind.TheVariants.{TooLong}
 use Rattle.slack_base.specs.declared.faults.AsmFault.{AsmFault}
-use Rattle.slack_base.specs.declared.images.Segment.{Segment}
 use Rattle.slack_base.specs.declared.images.Image.{Image}
 use Rattle.rv_asm.specs.declared.assembling.AsmError.{AsmError}
 use Rattle.rv_asm.specs.declared.assembling.AsmError.TheVariants as errors

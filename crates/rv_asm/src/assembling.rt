@@ -124,12 +124,7 @@ fn bytes_of<'a>(alloc: Global, labels: &Labels<'a>, text: &'a [u8]) -> Result<Ve
 
 /// Puts the word of a line at the end, if it has one, and answers the place after it. The line is too long where
 /// there are as many words as a program has at most.
-fn push_word(
-    bytes: &mut Vec<u8>,
-    here: u32,
-    line: u32,
-    word: Option<u32>,
-) -> Result<u32, AsmError>
+fn push_word(bytes: &mut Vec<u8>, here: u32, line: u32, word: Option<u32>) -> Result<u32, AsmError>
     ensures ok { IfOk result (PushesWord bytes.old.items bytes.new.items here word) }
     ensures fault { (fault : AsmFault) → IsErrOf result (AsmError.Fault fault) → IsSome word × (most_words ≤ here) × (fault ≡ record { line = line; kind = AsmKind.TooLong }) }
 {

@@ -9,7 +9,8 @@ use crate::labels::Labels;
 use crate::mnemonics::operation_of;
 use crate::numbers::number_of;
 use crate::operands::{
-    address, displaced, nothing, register_and, registers_2, registers_3, registers_and, target,
+    address, displaced, nothing, register_and, target, three_registers, two_registers,
+    two_registers_and,
 };
 use crate::operations::Operation;
 use rv_decode::{encode, is_in_range};
@@ -86,7 +87,7 @@ fn registers_target<'a>(
 ) -> Result<(u32, u32, i32), AsmKind>
     ensures { result ≡ registers_target (places_in labels.now) here text.now }
 {
-    let (first, second, last) = registers_and(text)?;
+    let (first, second, last) = two_registers_and(text)?;
     let offset = signed(target(labels, here, last)?)?;
     Ok((first, second, offset))
 }
@@ -95,7 +96,7 @@ fn registers_target<'a>(
 fn registers_number(text: &[u8]) -> Result<(u32, u32, i64), AsmKind>
     ensures { result ≡ registers_number text.now }
 {
-    let (first, second, last) = registers_and(text)?;
+    let (first, second, last) = two_registers_and(text)?;
     Ok((first, second, number_of(last)?))
 }
 
@@ -103,7 +104,7 @@ fn registers_number(text: &[u8]) -> Result<(u32, u32, i64), AsmKind>
 fn registers_address(text: &[u8]) -> Result<(u32, u32, u32), AsmKind>
     ensures { result ≡ registers_address text.now }
 {
-    let (first, second, last) = registers_and(text)?;
+    let (first, second, last) = two_registers_and(text)?;
     Ok((first, second, address(last)?))
 }
 
@@ -177,7 +178,7 @@ fn instruction<'a>(
             })
         }
         Operation::Reg(op) => {
-            let (rd, rs1, rs2) = registers_3(text)?;
+            let (rd, rs1, rs2) = three_registers(text)?;
             Ok(Instr::Reg { op, rd, rs1, rs2 })
         }
         Operation::Lr { aq, rl } => {
@@ -228,7 +229,7 @@ fn instruction<'a>(
             })
         }
         Operation::Mv => {
-            let (rd, rs1) = registers_2(text)?;
+            let (rd, rs1) = two_registers(text)?;
             Ok(Instr::Imm {
                 op: ImmOp::Addi,
                 rd,
@@ -237,7 +238,7 @@ fn instruction<'a>(
             })
         }
         Operation::Not => {
-            let (rd, rs1) = registers_2(text)?;
+            let (rd, rs1) = two_registers(text)?;
             Ok(Instr::Imm {
                 op: ImmOp::Xori,
                 rd,
@@ -246,7 +247,7 @@ fn instruction<'a>(
             })
         }
         Operation::Neg => {
-            let (rd, rs2) = registers_2(text)?;
+            let (rd, rs2) = two_registers(text)?;
             Ok(Instr::Reg {
                 op: RegOp::Sub,
                 rd,

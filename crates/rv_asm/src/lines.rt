@@ -3,7 +3,7 @@ ghost use Rattle.std.specs.Prelude.{◌≡◌, ◌<◌, ◌==◌, OnOk, IfOk, le
 ghost use Rattle.std.specs.Str.Lines.{strip_carriage_return};
 ghost use Rattle.rv_asm.specs.Labels.{uncommented, with_labels, redefines};
 ghost use Rattle.rv_asm.specs.LabelTables.{places_in};
-ghost use Rattle.rv_asm.specs.Lines.{names, statement, has_statement, line_code, GivesLine, line_code_of, first_line, rest_of_lines};
+ghost use Rattle.rv_asm.specs.Lines.{names, statement, GivesLine, line_code_of, first_line, rest_of_lines};
 
 use crate::bytes::{all_printable, before_byte, position_of, trim};
 use crate::instructions::word_at;

@@ -2,7 +2,7 @@
 ghost use Rattle.std.specs.Prelude.{◌≡◌};
 ghost use Rattle.rv_asm.specs.Kinds.{Gives};
 ghost use Rattle.rv_asm.specs.LabelTables.{places_in};
-ghost use Rattle.rv_asm.specs.Operands.{divided, nothing, memory, address, displaced, label_at, target, registers_2, registers_3, register_and, registers_and};
+ghost use Rattle.rv_asm.specs.Operands.{divided, nothing, memory, address, displaced, label_at, target, two_registers, three_registers, register_and, two_registers_and};
 
 use crate::bytes::{is_name, parts_at, trim, without_suffix};
 use crate::labels::Labels;
@@ -84,22 +84,22 @@ pub(crate) fn target<'a>(labels: &Labels<'a>, here: u32, text: &'a [u8]) -> Resu
 }
 
 /// Two registers.
-#[tactic(auto, unfolding(crate::specs::Operands::registers_2))]
-pub(crate) fn registers_2(text: &[u8]) -> Result<(u32, u32), AsmKind>
-    ensures { result ≡ registers_2 text.now }
+#[tactic(auto, unfolding(crate::specs::Operands::two_registers))]
+pub(crate) fn two_registers(text: &[u8]) -> Result<(u32, u32), AsmKind>
+    ensures { result ≡ two_registers text.now }
 {
     let (first, second) = divided(text, b',')?;
     Ok((register_of(first)?, register_of(second)?))
 }
 
 /// Three registers.
-#[tactic(auto, unfolding(crate::specs::Operands::registers_3))]
-pub(crate) fn registers_3(text: &[u8]) -> Result<(u32, u32, u32), AsmKind>
-    ensures { result ≡ registers_3 text.now }
+#[tactic(auto, unfolding(crate::specs::Operands::three_registers))]
+pub(crate) fn three_registers(text: &[u8]) -> Result<(u32, u32, u32), AsmKind>
+    ensures { result ≡ three_registers text.now }
 {
     let (first, others) = divided(text, b',')?;
     let first = register_of(first)?;
-    let (second, third) = registers_2(others)?;
+    let (second, third) = two_registers(others)?;
     Ok((first, second, third))
 }
 
@@ -113,9 +113,9 @@ pub(crate) fn register_and(text: &[u8]) -> Result<(u32, &[u8]), AsmKind>
 }
 
 /// Two registers, and the text of the operand after them.
-#[tactic(auto, unfolding(crate::specs::Operands::registers_and))]
-pub(crate) fn registers_and(text: &[u8]) -> Result<(u32, u32, &[u8]), AsmKind>
-    ensures { Gives (λ parts. (parts.0, parts.1, parts.2.now)) result (registers_and text.now) }
+#[tactic(auto, unfolding(crate::specs::Operands::two_registers_and))]
+pub(crate) fn two_registers_and(text: &[u8]) -> Result<(u32, u32, &[u8]), AsmKind>
+    ensures { Gives (λ parts. (parts.0, parts.1, parts.2.now)) result (two_registers_and text.now) }
 {
     let (first, others) = register_and(text)?;
     let (second, last) = register_and(others)?;

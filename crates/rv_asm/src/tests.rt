@@ -91,6 +91,10 @@ const EACH: [(&str, u32); 84] = [
     ("add t5, t6, fp", 0x008f8f33),
 ];
 
+const EXIT_BYTES: [u8; 12] = [
+    0x93, 0x08, 0xd0, 0x05, 0x13, 0x05, 0x00, 0x00, 0x73, 0x00, 0x00, 0x00,
+];
+
 const SPIN: &str = "\
         lui  s0, 32
         addi s1, a0, 1
@@ -273,6 +277,35 @@ fn faults(rt: HostRuntime) -> Result<(), Fail> {
             Some(AsmError::Fault(AsmFault { line, kind })),
             "{text}"
         );
+    }
+    Ok(())
+}
+
+/// The words stand one after another from the base, least byte first.
+#[test]
+fn image_of_a_text(rt: HostRuntime) -> Result<(), Fail> {
+    let text = b"addi a7, x0, 93\naddi a0, x0, 0\necall\n";
+    let image = assemble(rt.alloc(), text, 65536)?;
+    assert_eq!(rt; image.entry, 65536);
+    assert_eq!(rt; image.segments.len(), 1);
+    for segment in image.segments.as_slice() {
+        assert_eq!(rt; segment.address, 65536);
+        assert_eq!(rt; segment.size, 12);
+        assert_eq!(rt; segment.bytes.as_slice(), EXIT_BYTES.as_slice());
+    }
+    Ok(())
+}
+
+/// A text without words has a segment of no bytes.
+#[test]
+fn image_of_labels_alone(rt: HostRuntime) -> Result<(), Fail> {
+    let image = assemble(rt.alloc(), b"a: # none\n\nb:", 4294967295)?;
+    assert_eq!(rt; image.entry, 4294967295);
+    assert_eq!(rt; image.segments.len(), 1);
+    for segment in image.segments.as_slice() {
+        assert_eq!(rt; segment.address, 4294967295);
+        assert_eq!(rt; segment.size, 0);
+        assert_eq!(rt; segment.bytes.len(), 0);
     }
     Ok(())
 }

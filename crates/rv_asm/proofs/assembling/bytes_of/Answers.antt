@@ -1,9 +1,9 @@
-use Rattle.std.proofs.Common.{◌≡◌, ℕ, ◌<◌, ◌^◌, ◌+◌, List, length, Ok, Err, Vec, Global, ◌∙◌, sym, ap, arith, subst}
+use Rattle.std.proofs.Common.{◌≡◌, ℕ, ◌<◌, ◌+◌, List, length, Ok, Err, Vec, Global, ◌∙◌, sym, ap, arith, subst}
 use Rattle.std.specs.Str.Lines.{lines}
 use Rattle.std.proofs.lemmas.Bool.Decides.{nat_tests}
-use Rattle.rv_asm.specs.Labels.{no_places, with_labels, redefines}
+use Rattle.rv_asm.specs.Labels.{no_places, with_labels}
 use Rattle.rv_asm.specs.LabelTables.{places_in}
-use Rattle.rv_asm.specs.Lines.{names, statement, line_code, line_code_of, GivesLine, first_line, rest_of_lines}
+use Rattle.rv_asm.specs.Lines.{names, GivesLine}
 use Rattle.rv_asm.specs.Programs.{codes_from, GivesBytes}
 use Rattle.rv_asm.specs.declared.assembling.AsmError.{AsmError}
 use Rattle.rv_asm.proofs.SoFar.{IsSoFar, line_is, line_fault, push_fault, passed_on, so_far_step, so_far_end}

@@ -1,4 +1,4 @@
-use Rattle.std.proofs.Common.{◌≡◌, ◌+◌, ◌≤◌, length}
+use Rattle.std.proofs.Common.{length}
 use Rattle.rv_asm.specs.LabelTables.{places_in}
 use Rattle.rv_asm.proofs.SoFar.{IsSoFar}
 use Rattle.rv_asm.proofs.assembling.bytes_of.Given as goal

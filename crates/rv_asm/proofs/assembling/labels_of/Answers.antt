@@ -1,4 +1,4 @@
-use Rattle.std.proofs.Common.{◌≡◌, sym, ◌<◌, length, ◌∙◌, ap, arith, subst, eqb, not}
+use Rattle.std.proofs.Common.{◌≡◌, sym, ◌<◌, length, ◌∙◌, ap, arith}
 use Rattle.std.specs.Str.Lines.{lines}
 use Rattle.std.proofs.lemmas.Bool.Decides.{nat_tests}
 use Rattle.rv_asm.specs.Labels.{with_labels}
@@ -20,9 +20,10 @@ loop-rest-preserved c =
     let said = c.in_ok-labelled.ensures.statement ∙ ap statement c.first_line.ensures.line in
     let after = moved c.loop-rest.place c.place_after-place.result _ _ c.place_after-place.ensures said in
     let step = places_step (places_in c.loop-rest.labels) (places_in c.define_line.new.labels) c.loop-rest.place c.place_after-place.result rest some defined after in
-    let near = moved_le c.loop-rest.place c.place_after-place.result _ c.place_after-place.ensures in
-    (ap (λ r. places_from (places_in c.define_line.new.labels) c.place_after-place.result (lines r)) c.first_line.ensures.after ∙ step ∙ c.loop-rest.invariant.0,
-    omega (arith, rest_shorter rest some, ap length c.first_line.ensures.after, near, c.loop-rest.invariant.1))
+    let near = moved_le c.loop-rest.place c.place_after-place.result _ c.place_after-place.ensures in (
+      ap (λ r. places_from (places_in c.define_line.new.labels) c.place_after-place.result (lines r)) c.first_line.ensures.after ∙ step ∙ c.loop-rest.invariant.0,
+      omega (arith, rest_shorter rest some, ap length c.first_line.ensures.after, near, c.loop-rest.invariant.1),
+    )
 
 pub returns : goal.returns
 returns c =

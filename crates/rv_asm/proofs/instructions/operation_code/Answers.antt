@@ -18,7 +18,7 @@ returns-then-is_in_range c =
 pub returns-else-is_in_range : goal.returns-else-is_in_range
 returns-else-is_in_range c =
     let test : is_in_range c.in_ok-instr.instr ≡ false =
-        out_of_range c.in_ok-instr.instr (λ h. let other = c.is_in_range.ensures.1 h in let this = c.if-is_in_range.false in cc) in
+    out_of_range c.in_ok-instr.instr (λ h. let other = c.is_in_range.ensures.1 h in let this = c.if-is_in_range.false in cc) in
     let known = ap (λ o. ok_or o Mnemonic) (sym c.operation_of.ensures) ∙ sym c.ok_or.ensures.value ∙ c.in_ok-operation.was in
     let made = sym c.instruction.ensures ∙ c.in_ok-instr.was in
     code_checked (places_in c.args.labels.now) c.args.here c.args.name.now c.args.operands.now c.in_ok-operation.operation c.in_ok-instr.instr false known made test

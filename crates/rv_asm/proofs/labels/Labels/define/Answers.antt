@@ -1,4 +1,4 @@
-use Rattle.std.proofs.Common.{◌≡◌, sym, true, false, is_some, ◌∙◌}
+use Rattle.std.proofs.Common.{sym, ◌∙◌}
 use Rattle.std.proofs.lemmas.Map.Text.{btree_map_updates_str}
 use Rattle.rv_asm.specs.LabelTables.{places_in}
 use Rattle.rv_asm.proofs.Places.{defined_before, defined_now}
