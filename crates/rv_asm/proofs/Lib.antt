@@ -1,0 +1,9 @@
+pub mod Coding
+pub mod Digits
+pub mod InRange
+pub mod Names
+pub mod Parts
+pub mod Places
+pub mod Searching
+pub mod SoFar
+pub mod Steps

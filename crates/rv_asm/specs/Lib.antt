@@ -1,0 +1,13 @@
+pub mod Bytes
+pub mod Instructions
+pub mod Kinds
+pub mod LabelTables
+pub mod Labels
+pub mod Lines
+pub mod Mnemonics
+pub mod Numbers
+pub mod Operands
+pub mod Programs
+pub mod Ranges
+pub mod Registers
+pub mod Tables

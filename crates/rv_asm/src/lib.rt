@@ -1,0 +1,18 @@
+//! An assembler for RV32IMA: the texts of instructions, labels, some pseudo-instructions and words of data.
+#![tactic(auto)]
+
+mod assembling;
+mod bytes;
+mod instructions;
+mod labels;
+mod lines;
+mod mnemonics;
+mod numbers;
+mod operands;
+mod operations;
+mod registers;
+mod tables;
+#[cfg(test)]
+mod tests;
+
+pub use assembling::{AsmError, assemble};

@@ -1,0 +1,91 @@
+//! The names of the registers.
+ghost use Rattle.std.specs.Prelude.{◌≡◌, IsTrue};
+ghost use Rattle.rv_asm.specs.Registers.{registers, register_of};
+ghost use Rattle.rv_asm.specs.Tables.{rows_of, is_sorted};
+
+use crate::tables::{Row, entry_in};
+use slack_base::AsmKind;
+
+/// Each name, with its number: those of the RISC-V Unprivileged ISA (20191213, chapter 25).
+pub(crate) static REGISTERS: [Row<u32>; 65] = [
+    (b"a0", 10),
+    (b"a1", 11),
+    (b"a2", 12),
+    (b"a3", 13),
+    (b"a4", 14),
+    (b"a5", 15),
+    (b"a6", 16),
+    (b"a7", 17),
+    (b"fp", 8),
+    (b"gp", 3),
+    (b"ra", 1),
+    (b"s0", 8),
+    (b"s1", 9),
+    (b"s10", 26),
+    (b"s11", 27),
+    (b"s2", 18),
+    (b"s3", 19),
+    (b"s4", 20),
+    (b"s5", 21),
+    (b"s6", 22),
+    (b"s7", 23),
+    (b"s8", 24),
+    (b"s9", 25),
+    (b"sp", 2),
+    (b"t0", 5),
+    (b"t1", 6),
+    (b"t2", 7),
+    (b"t3", 28),
+    (b"t4", 29),
+    (b"t5", 30),
+    (b"t6", 31),
+    (b"tp", 4),
+    (b"x0", 0),
+    (b"x1", 1),
+    (b"x10", 10),
+    (b"x11", 11),
+    (b"x12", 12),
+    (b"x13", 13),
+    (b"x14", 14),
+    (b"x15", 15),
+    (b"x16", 16),
+    (b"x17", 17),
+    (b"x18", 18),
+    (b"x19", 19),
+    (b"x2", 2),
+    (b"x20", 20),
+    (b"x21", 21),
+    (b"x22", 22),
+    (b"x23", 23),
+    (b"x24", 24),
+    (b"x25", 25),
+    (b"x26", 26),
+    (b"x27", 27),
+    (b"x28", 28),
+    (b"x29", 29),
+    (b"x3", 3),
+    (b"x30", 30),
+    (b"x31", 31),
+    (b"x4", 4),
+    (b"x5", 5),
+    (b"x6", 6),
+    (b"x7", 7),
+    (b"x8", 8),
+    (b"x9", 9),
+    (b"zero", 0),
+];
+
+fn registers() -> &'static [Row<u32>]
+    ensures rows { rows_of result.now ≡ registers }
+    ensures sorted { IsTrue (is_sorted (rows_of result.now)) }
+{
+    &REGISTERS
+}
+
+/// The register of this name.
+#[tactic(auto, unfolding(crate::specs::Registers::register_of))]
+pub(crate) fn register_of(name: &[u8]) -> Result<u32, AsmKind>
+    ensures { result ≡ register_of name.now }
+{
+    entry_in(registers(), name).ok_or(AsmKind::Operand)
+}

@@ -1,0 +1,311 @@
+//! Words as LLVM's assembler gives them (`llvm-mc -triple=riscv32 -mattr=+m,+a`), and the faults of texts.
+use super::*;
+use slack_base::{AsmFault, AsmKind};
+use std::alloc::Global;
+use std::test::Fail;
+
+const EACH: [(&str, u32); 84] = [
+    ("lui x8, 1", 0x00001437),
+    ("auipc t0, 1048575", 0xfffff297),
+    ("jal x1, 2048", 0x001000ef),
+    ("jalr x5, -4(x6)", 0xffc302e7),
+    ("beq x10, x11, 16", 0x00b50863),
+    ("bne x10, x0, -16", 0xfe0518e3),
+    ("blt x1, x2, 4094", 0x7e20cfe3),
+    ("bge x1, x2, -4096", 0x8020d063),
+    ("bltu x3, x4, 8", 0x0041e463),
+    ("bgeu x3, x4, 8", 0x0041f463),
+    ("lb x5, -1(x6)", 0xfff30283),
+    ("lh x5, 2(x6)", 0x00231283),
+    ("lw x5, 16(x8)", 0x01042283),
+    ("lbu x5, 2047(x6)", 0x7ff34283),
+    ("lhu x5, -2048(x6)", 0x80035283),
+    ("sb x7, 1(x9)", 0x007480a3),
+    ("sh x7, -2(x9)", 0xfe749f23),
+    ("sw x10, 0(x8)", 0x00a42023),
+    ("addi x17, x0, 93", 0x05d00893),
+    ("slti x1, x2, -1", 0xfff12093),
+    ("sltiu x1, x2, 0x7ff", 0x7ff13093),
+    ("xori x1, x2, 5", 0x00514093),
+    ("ori x1, x2, 6", 0x00616093),
+    ("andi x1, x2, 7", 0x00717093),
+    ("slli x1, x2, 3", 0x00311093),
+    ("srli x1, x2, 31", 0x01f15093),
+    ("srai x1, x2, 0", 0x40015093),
+    ("add x1, x2, x3", 0x003100b3),
+    ("sll x1, x2, x3", 0x003110b3),
+    ("slt x1, x2, x3", 0x003120b3),
+    ("sltu x1, x2, x3", 0x003130b3),
+    ("xor x1, x2, x3", 0x003140b3),
+    ("srl x1, x2, x3", 0x003150b3),
+    ("or x1, x2, x3", 0x003160b3),
+    ("and x1, x2, x3", 0x003170b3),
+    ("sub x1, x2, x3", 0x403100b3),
+    ("sra x1, x2, x3", 0x403150b3),
+    ("mul x1, x2, x3", 0x023100b3),
+    ("mulh x1, x2, x3", 0x023110b3),
+    ("mulhsu x1, x2, x3", 0x023120b3),
+    ("mulhu x1, x2, x3", 0x023130b3),
+    ("div x1, x2, x3", 0x023140b3),
+    ("divu x1, x2, x3", 0x023150b3),
+    ("rem x1, x2, x3", 0x023160b3),
+    ("remu x1, x2, x3", 0x023170b3),
+    ("lr.w x5, (x8)", 0x100422af),
+    ("lr.w.aq x5, (x8)", 0x140422af),
+    ("lr.w.rl x5, (x8)", 0x120422af),
+    ("lr.w.aqrl x5, (x8)", 0x160422af),
+    ("sc.w x6, x8, (x9)", 0x1884a32f),
+    ("sc.w.aq x6, x8, (x9)", 0x1c84a32f),
+    ("sc.w.rl x6, x8, (x9)", 0x1a84a32f),
+    ("sc.w.aqrl x6, x8, (x9)", 0x1e84a32f),
+    ("amoswap.w x1, x2, (x3)", 0x0821a0af),
+    ("amoadd.w.aq x0, x5, (x28)", 0x045e202f),
+    ("amoxor.w.rl x1, x2, (x3)", 0x2221a0af),
+    ("amoand.w.aqrl x1, x2, (x3)", 0x6621a0af),
+    ("amoor.w x1, x2, (x3)", 0x4021a0af),
+    ("amomin.w x1, x2, (x3)", 0x8021a0af),
+    ("amomax.w x1, x2, (x3)", 0xa021a0af),
+    ("amominu.w x1, x2, (x3)", 0xc021a0af),
+    ("amomaxu.w x1, x2, (x3)", 0xe021a0af),
+    ("fence", 0x0ff0000f),
+    ("ecall", 0x00000073),
+    ("ebreak", 0x00100073),
+    ("nop", 0x00000013),
+    ("mv a0, s11", 0x000d8513),
+    ("not t6, s2", 0xfff94f93),
+    ("neg a7, t3", 0x41c008b3),
+    ("j -8", 0xff9ff06f),
+    ("ret", 0x00008067),
+    ("beqz fp, 12", 0x00040663),
+    ("bnez gp, 12", 0x00019663),
+    ("add zero, ra, sp", 0x00208033),
+    ("add gp, tp, t0", 0x005201b3),
+    ("add t1, t2, s0", 0x00838333),
+    ("add s1, a0, a1", 0x00b504b3),
+    ("add a2, a3, a4", 0x00e68633),
+    ("add a5, a6, a7", 0x011807b3),
+    ("add s2, s3, s4", 0x01498933),
+    ("add s5, s6, s7", 0x017b0ab3),
+    ("add s8, s9, s10", 0x01ac8c33),
+    ("add s11, t3, t4", 0x01de0db3),
+    ("add t5, t6, fp", 0x008f8f33),
+];
+
+const EXIT_BYTES: [u8; 12] = [
+    0x93, 0x08, 0xd0, 0x05, 0x13, 0x05, 0x00, 0x00, 0x73, 0x00, 0x00, 0x00,
+];
+
+const SPIN: &str = "\
+        lui  s0, 32
+        addi s1, a0, 1
+        addi s2, x0, 9
+again:  lw   t1, 0(s0)
+        bne  t1, x0, again
+        addi t0, x0, 1
+        amoswap.w t1, t0, (s0)
+        bne  t1, x0, again
+        lw   t2, 16(s0)
+        add  t2, t2, s1
+        sw   t2, 16(s0)
+        amoswap.w x0, x0, (s0)
+        addi s2, s2, -1
+        bne  s2, x0, again
+        addi t0, x0, 1
+        addi t3, s0, 32
+        amoadd.w x0, t0, (t3)
+        bne  s1, t0, done
+        addi t4, x0, 4
+wait:   lw   t1, 32(s0)
+        bne  t1, t4, wait
+        lw   a0, 16(s0)
+        addi a7, x0, 1
+        ecall
+done:   addi a7, x0, 93
+        addi a0, x0, 0
+        ecall
+";
+
+const SPIN_WORDS: [u32; 27] = [
+    0x00020437, 0x00150493, 0x00900913, 0x00042303, 0xfe031ee3, 0x00100293, 0x0854232f, 0xfe0318e3,
+    0x01042383, 0x009383b3, 0x00742823, 0x0804202f, 0xfff90913, 0xfc091ce3, 0x00100293, 0x02040e13,
+    0x005e202f, 0x00549e63, 0x00400e93, 0x02042303, 0xffd31ee3, 0x01042503, 0x00100893, 0x00000073,
+    0x05d00893, 0x00000513, 0x00000073,
+];
+
+/// Texts whose words are those of another text.
+const SAME: [(&str, &str); 14] = [
+    (
+        "\t addi\ta7 ,x0\t,  0x5D # as a number in hexadecimal",
+        "addi x17, x0, 93",
+    ),
+    ("lw x5 , 16 ( x8 )", "lw x5, 16(x8)"),
+    ("lw x5,-0(x8)", "lw x5, 0(x8)"),
+    ("amoadd.w x0, x5,( t3 )", "amoadd.w x0, x5, (x28)"),
+    ("add: x5:l:j add", "jal x0, 0"),
+    ("\t_a.1:nop\r\n#\r\n", "nop"),
+    ("j l\n nop\nl:", "jal x0, 8\nnop"),
+    (
+        "a: b:\nc:j a\nbeqz x1, c\njal x1, d\nd:",
+        "jal x0, 0\nbeq x1, x0, -4\njal x1, 4",
+    ),
+    ("lui x8, 0000000000000000001", "lui x8, 1"),
+    (".word -0x80000000", ".word 2147483648"),
+    (".word 4294967295", ".word -1"),
+    ("nop\r\nnop", "nop\nnop"),
+    ("# nothing\n\n\t\nlabel: # and nothing", ""),
+    (
+        "beq x1, x2, 0x10\nbeqz x0, -0x10",
+        "beq x1, x2, 16\nbeq x0, x0, -16",
+    ),
+];
+
+/// Texts with a fault: its line and kind.
+const FAULTS: [(&str, u32, AsmKind); 60] = [
+    ("nop # \x7f", 1, AsmKind::Byte),
+    ("nop\r", 1, AsmKind::Byte),
+    ("\nnop\r\r\n", 2, AsmKind::Byte),
+    ("l: l: \x01", 1, AsmKind::Byte),
+    ("l:\nl: walk", 2, AsmKind::Twice),
+    ("l: nop\nwalk\nl:", 2, AsmKind::Mnemonic),
+    ("l: m: l:", 1, AsmKind::Twice),
+    ("walk x1, x2", 1, AsmKind::Mnemonic),
+    ("addi,x0", 1, AsmKind::Mnemonic),
+    ("l : nop", 1, AsmKind::Mnemonic),
+    ("1: nop", 1, AsmKind::Mnemonic),
+    (".l: nop", 1, AsmKind::Mnemonic),
+    ("ADD x1, x2, x3", 1, AsmKind::Mnemonic),
+    ("addi.aq x1, x2, 3", 1, AsmKind::Mnemonic),
+    ("lr.w.rlaq x1, (x2)", 1, AsmKind::Mnemonic),
+    (".words 3", 1, AsmKind::Mnemonic),
+    ("addi", 1, AsmKind::Operand),
+    ("nop x0", 1, AsmKind::Operand),
+    ("ret ,", 1, AsmKind::Operand),
+    ("add x1, x2", 1, AsmKind::Operand),
+    ("add x1, x2, x3, x4", 1, AsmKind::Operand),
+    ("add x1, x2, x32", 1, AsmKind::Operand),
+    ("add x1, x2, x01", 1, AsmKind::Operand),
+    ("add x1 x2, x3", 1, AsmKind::Operand),
+    ("mv x1, 3", 1, AsmKind::Operand),
+    ("lw x5, (x8)", 1, AsmKind::Operand),
+    ("lw x5, 16(x8", 1, AsmKind::Operand),
+    ("lw x5, 16", 1, AsmKind::Operand),
+    ("lw x5, 1 6(x8)", 1, AsmKind::Operand),
+    ("lr.w x5, 0(x8)", 1, AsmKind::Operand),
+    ("addi x1, x2, 0X1", 1, AsmKind::Operand),
+    ("addi x1, x2, 0x", 1, AsmKind::Operand),
+    ("addi x1, x2, 0xg", 1, AsmKind::Operand),
+    ("addi x1, x2, +1", 1, AsmKind::Operand),
+    ("addi x1, x2, --1", 1, AsmKind::Operand),
+    ("addi x1, x2, -", 1, AsmKind::Operand),
+    ("addi x1, x2, 1a", 1, AsmKind::Operand),
+    ("addi x1, x2, l\nl:", 1, AsmKind::Operand),
+    ("addi x1, x2, 4294967296", 1, AsmKind::Operand),
+    (".word", 1, AsmKind::Operand),
+    (".word 1, 2", 1, AsmKind::Operand),
+    (".word -4294967296", 1, AsmKind::Operand),
+    ("beq x1, y, away", 1, AsmKind::Operand),
+    ("j x1", 1, AsmKind::Label),
+    ("jal x0, away", 1, AsmKind::Label),
+    ("beqz x1, away\naway", 1, AsmKind::Label),
+    ("addi a0, x0, 2048", 1, AsmKind::Range),
+    ("addi a0, x0, -2049", 1, AsmKind::Range),
+    ("addi a0, x0, 4294967295", 1, AsmKind::Range),
+    ("lui a0, 1048576", 1, AsmKind::Range),
+    ("lui a0, -1", 1, AsmKind::Range),
+    ("slli x1, x2, 32", 1, AsmKind::Range),
+    ("slli x1, x2, -1", 1, AsmKind::Range),
+    ("beq x1, x2, 3", 1, AsmKind::Range),
+    ("beq x1, x2, 4096", 1, AsmKind::Range),
+    ("j 1048576", 1, AsmKind::Range),
+    ("sw x1, 2048(x2)", 1, AsmKind::Range),
+    (".word -2147483649", 1, AsmKind::Range),
+    ("nop\n\nwalk\nwalk", 3, AsmKind::Mnemonic),
+    ("j l\nwalk\nl:", 2, AsmKind::Mnemonic),
+];
+
+/// The words of a text at address 0, or its fault: none where memory runs out.
+fn words_of(alloc: Global, text: &str) -> Result<Vec<u32>, AsmError> {
+    if text.len() >= 1 << 32 {
+        return Err(AsmError::OutOfMemory);
+    }
+    let image = assemble(alloc, text.as_bytes(), 0)?;
+    let mut words = Vec::new(alloc);
+    for segment in image.segments.as_slice() {
+        for bytes in segment.bytes.as_slice().chunks_exact(4) {
+            if let [a, b, c, d] = bytes {
+                words.push(u32::from_le_bytes([*a, *b, *c, *d]))?;
+            }
+        }
+    }
+    Ok(words)
+}
+
+/// Every instruction and pseudo-instruction.
+#[test]
+fn words_of_each(rt: HostRuntime) -> Result<(), Fail> {
+    for (text, word) in EACH {
+        let words = words_of(rt.alloc(), text)?;
+        assert_eq!(rt; words.as_slice(), [word].as_slice(), "{text}");
+    }
+    Ok(())
+}
+
+/// A program with labels before and behind their uses.
+#[test]
+fn words_of_a_program(rt: HostRuntime) -> Result<(), Fail> {
+    let words = words_of(rt.alloc(), SPIN)?;
+    assert_eq!(rt; words.as_slice(), SPIN_WORDS.as_slice());
+    Ok(())
+}
+
+#[test]
+fn same_words(rt: HostRuntime) -> Result<(), Fail> {
+    for (text, other) in SAME {
+        let words = words_of(rt.alloc(), text)?;
+        let others = words_of(rt.alloc(), other)?;
+        assert_eq!(rt; words.as_slice(), others.as_slice(), "{text}");
+    }
+    Ok(())
+}
+
+#[test]
+fn faults(rt: HostRuntime) -> Result<(), Fail> {
+    for (text, line, kind) in FAULTS {
+        let fault = words_of(rt.alloc(), text).err();
+        assert_eq!(rt;
+            fault,
+            Some(AsmError::Fault(AsmFault { line, kind })),
+            "{text}"
+        );
+    }
+    Ok(())
+}
+
+/// The words stand one after another from the base, least byte first.
+#[test]
+fn image_of_a_text(rt: HostRuntime) -> Result<(), Fail> {
+    let text = b"addi a7, x0, 93\naddi a0, x0, 0\necall\n";
+    let image = assemble(rt.alloc(), text, 65536)?;
+    assert_eq!(rt; image.entry, 65536);
+    assert_eq!(rt; image.segments.len(), 1);
+    for segment in image.segments.as_slice() {
+        assert_eq!(rt; segment.address, 65536);
+        assert_eq!(rt; segment.size, 12);
+        assert_eq!(rt; segment.bytes.as_slice(), EXIT_BYTES.as_slice());
+    }
+    Ok(())
+}
+
+/// A text without words has a segment of no bytes.
+#[test]
+fn image_of_labels_alone(rt: HostRuntime) -> Result<(), Fail> {
+    let image = assemble(rt.alloc(), b"a: # none\n\nb:", 4294967295)?;
+    assert_eq!(rt; image.entry, 4294967295);
+    assert_eq!(rt; image.segments.len(), 1);
+    for segment in image.segments.as_slice() {
+        assert_eq!(rt; segment.address, 4294967295);
+        assert_eq!(rt; segment.size, 0);
+        assert_eq!(rt; segment.bytes.len(), 0);
+    }
+    Ok(())
+}
