@@ -37,6 +37,11 @@ abbrev pub entry_at : ChannelValue → ℕ → Option EntryView
 entry_at (AsBus b) line = entry_of b line
 entry_at (AsConsole bytes) line = None
 
+-- the number of a bus: none of the console
+abbrev pub number_of : ChannelValue → Option ℕ
+number_of (AsBus b) = Some b.number
+number_of (AsConsole bytes) = None
+
 abbrev pub free_of : ChannelValue → ℕ
 free_of (AsBus b) = b.free
 free_of (AsConsole bytes) = 0

@@ -112,6 +112,13 @@ impl Bus {
         self.entries[place].view()
     }
 
+    /// The bus's number.
+    pub(crate) fn number(&self) -> u32
+        ensures { result ≡ self.now.number }
+    {
+        self.index
+    }
+
     /// The cycle from which the bus is free.
     pub(crate) fn free(&self) -> u64
         ensures { result ≡ self.now.free }

@@ -46,7 +46,7 @@ pub fn channel_of(ask: &Ask, buses: u32) -> u32
 impl Channel {
     ghost use Rattle.slack_base.specs.Images.{Fits};
     ghost use Rattle.slack_base.specs.Numbers.{numbers_of};
-    ghost use Rattle.bus_model.specs.Channels.{AsBus, AsConsole, setting_of, entry_at, free_of, asks_of, retries_of, count_of, bytes_of, IsSound};
+    ghost use Rattle.bus_model.specs.Channels.{AsBus, AsConsole, setting_of, entry_at, number_of, free_of, asks_of, retries_of, count_of, bytes_of, IsSound};
     ghost use Rattle.bus_model.specs.Asks.{MayServe, HasLine};
     ghost use Rattle.bus_model.specs.Starting.{first_bus};
     ghost use Rattle.bus_model.specs.Serving.{served};
@@ -101,6 +101,16 @@ impl Channel {
         match &self.kind {
             Kind::Bus(bus) => bus.entry(line),
             Kind::Console(_) => unreachable!(),
+        }
+    }
+
+    /// The number of the bus: none on the console.
+    pub fn number(&self) -> Option<u32>
+        ensures { result ≡ number_of self.now }
+    {
+        match &self.kind {
+            Kind::Bus(bus) => Some(bus.number()),
+            Kind::Console(_) => None,
         }
     }
 

@@ -1,5 +1,11 @@
 pub mod InPlace
-pub mod Bare
+pub mod Numbered
+pub mod Ticking
+pub mod Serving
+pub mod Delivery
+pub mod FirstState
+pub mod Lawful
+pub mod Stored
+pub mod Targets
 pub mod Lockstep
-pub mod AllEnded
 pub mod Running

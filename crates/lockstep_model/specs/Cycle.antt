@@ -5,13 +5,10 @@ use Rattle.std.specs.List.{flat_map, list_all}
 use Rattle.slack_base.specs.declared.messages.Ask.{Ask}
 use Rattle.slack_base.specs.declared.messages.Post.{Post}
 use Rattle.stamp_queue.specs.Inbox.{with_post}
-
--- a core: all that its ticks read and change, and the posts that wait for it, in order of (due, id)
-pub record CoreValue (Inner : Type 0) : Type 0 where
-  pub inner : Inner
-  pub inbox : List Post
+use Rattle.timed_core.specs.Cores.{CoreValue}
 
 pub record State (Inner Chan : Type 0) : Type 0 where
+  -- the cycle that comes next
   pub clock : ℕ
   pub cores : List (CoreValue Inner)
   pub chans : List Chan
@@ -33,12 +30,23 @@ changed_at n f [] = ([], [])
 changed_at zero f (x ∷ xs) = ((f x).0 ∷ xs, (f x).1)
 changed_at (suc n) f (x ∷ xs) = (x ∷ (changed_at n f xs).0, (changed_at n f xs).1)
 
+-- a post goes into the inbox of the core that it is addressed to, and one post after another
+abbrev pub with_inbox_post : {Inner : Type 0} → Post → CoreValue Inner → CoreValue Inner × List Post
+with_inbox_post p core = (record core { inbox = with_post core.inbox p }, [])
+
+abbrev pub delivered : {Inner : Type 0} → List (CoreValue Inner) → List Post → List (CoreValue Inner)
+delivered cores [] = cores
+delivered cores (p ∷ posts) = delivered (changed_at p.to (with_inbox_post p) cores).0 posts
+
 module _ {Inner Chan : Type 0} (rules : Rules Inner Chan) where
   -- a tick at clock t takes the due posts out of the inbox
   abbrev pub tick_of : ℕ → CoreValue Inner → CoreValue Inner × List Ask
   tick_of t core =
       let ticked = rules.tick core.inner t (filter (λ p. nat_le p.due t) core.inbox) in
       (record { inner = ticked.0; inbox = filter (λ p. nat_lt t p.due) core.inbox }, ticked.1)
+
+  abbrev pub ticked : ℕ → List (CoreValue Inner) → List (CoreValue Inner)
+  ticked t cores = map (λ core. (tick_of t core).0) cores
 
   -- the asks of all ticks at clock t: in core order, and of a core in the order in which it sends them. This is the
   -- order of their ids
@@ -53,19 +61,13 @@ module _ {Inner Chan : Type 0} (rules : Rules Inner Chan) where
       let rest = through served.0 asks in
       (rest.0, served.1 ++ rest.1)
 
-  -- posts go into the inboxes of the cores that they are addressed to
-  abbrev pub delivered : List (CoreValue Inner) → List Post → List (CoreValue Inner)
-  delivered cores [] = cores
-  delivered cores (p ∷ posts) =
-      delivered (changed_at {Y = Post} p.to (λ core. (record core { inbox = with_post core.inbox p }, [])) cores).0 posts
-
   -- one cycle: all cores tick, their asks are served, the posts of these are delivered
   unfoldable pub cycle : State Inner Chan → State Inner Chan
   cycle s =
       let served = through s.chans (asks_of s.clock s.cores) in
       record {
         clock = s.clock + 1;
-        cores = delivered (map (λ core. (tick_of s.clock core).0) s.cores) served.1;
+        cores = delivered (ticked s.clock s.cores) served.1;
         chans = served.0;
       }
 

@@ -1,17 +1,13 @@
 //! The machine that is simulated, cycle by cycle.
 #![tactic(auto)]
 
-pub mod channels;
-pub mod code;
-pub mod effects;
+pub mod cycles;
+pub mod laws;
 pub mod machine;
 pub mod runs;
-pub mod timed_cores;
+pub mod starting;
 
-pub use channels::Channel;
-pub use code::Code;
-pub use machine::{
-    ChanList, CoreList, Machine, RvTarget, all_have_ended, cycle, run_to, start, stopped,
-};
+pub use cycles::{all_have_ended, cycle, run_to, stopped};
+pub use machine::{ChanList, CoreList, Machine, RvTarget};
 pub use runs::run;
-pub use timed_cores::{TOP, TimedCore};
+pub use starting::start;

@@ -1,11 +1,13 @@
 //! A run, from checkpoint to checkpoint.
-ghost use Rattle.std.specs.Prelude.{◌≡◌, ◌-◌, ◌<◌, ◌≤◌, ◌^◌, ◌==◌, ◌||◌, length, OnOk};
+ghost use Rattle.std.specs.Prelude.{◌≡◌, ◌-◌, ◌<◌, ◌≤◌, ◌^◌, ◌==◌, ◌||◌, OnOk};
+ghost use Rattle.slack_base.specs.Numbers.{numbers_of};
 ghost use Rattle.lockstep_model.specs.Cycle.{lockstep, all_ended};
-ghost use Rattle.lockstep_model.specs.Machine.{rules_of};
+ghost use Rattle.lockstep_model.specs.Proper.{IsProper};
 ghost use Rattle.lockstep_model.specs.Stop.{Stops};
-ghost use Rattle.lockstep_model.specs.Views.{state_of};
+ghost use Rattle.lockstep_model.specs.Views.{state_of, rules_at};
 
-use crate::machine::{Machine, RvTarget, run_to, stopped};
+use crate::cycles::{run_to, stopped};
+use crate::machine::{Machine, RvTarget};
 use slack_base::OutOfMemory;
 use std::alloc::Global;
 
@@ -22,11 +24,10 @@ pub fn run(
     requires top { limit ≤ 2 ^ 62 }
     requires interval { 1 ≤ interval }
     requires short { interval ≤ 2 ^ 62 }
-    requires chans { length machine.old.chans ≡ 1 }
-    ensures stops { OnOk result (Stops (rules_of target.now.code) interval limit (state_of machine.old) machine.new.clock) }
-    ensures state { OnOk result (state_of machine.new ≡ lockstep (rules_of target.now.code) (state_of machine.old) (machine.new.clock - machine.old.clock)) }
-    ensures cores { OnOk result (length machine.new.cores ≡ length machine.old.cores) }
-    ensures chans { OnOk result (length machine.new.chans ≡ 1) }
+    requires proper { IsProper (numbers_of target.now.config) (state_of machine.old) }
+    ensures stops { OnOk result (Stops (rules_at target.now) interval limit (state_of machine.old) machine.new.clock) }
+    ensures state { OnOk result (state_of machine.new ≡ lockstep (rules_at target.now) (state_of machine.old) (machine.new.clock - machine.old.clock)) }
+    ensures proper { OnOk result (IsProper (numbers_of target.now.config) (state_of machine.new)) }
 {
     loop {
         let next = (machine.clock + interval).min(limit);
@@ -39,7 +40,7 @@ pub fn run(
 
 /// Whether a run stops at this checkpoint.
 fn is_over(target: &RvTarget, machine: &Machine, limit: u64) -> bool
-    ensures { result ≡ ((machine.now.clock == limit) || all_ended (rules_of target.now.code) (state_of machine.now)) }
+    ensures { result ≡ ((machine.now.clock == limit) || all_ended (rules_at target.now) (state_of machine.now)) }
 {
     machine.clock == limit || stopped(target, machine)
 }

@@ -9,10 +9,11 @@ use Rattle.slack_base.specs.declared.faults.ImageFault.{ImageFault}
 use Rattle.image_load.specs.Reading.{image_of}
 use Rattle.lockstep_model.specs.declared.machine.Machine.{Machine}
 use Rattle.lockstep_model.specs.Cycle.{lockstep}
-use Rattle.lockstep_model.specs.Machine.{code_of, rules_of, start_of}
+use Rattle.lockstep_model.specs.Machine.{rules_of, start_of}
 use Rattle.lockstep_model.specs.Stop.{Stops}
-use Rattle.lockstep_model.specs.Ticks.{Inner, is_running}
 use Rattle.lockstep_model.specs.Views.{state_of}
+use Rattle.timed_core.specs.Code.{code_of}
+use Rattle.timed_core.specs.Cores.{CoreValue, Inner, is_running}
 use Rattle.slacksim.specs.declared.answers.Answer.{Answer}
 use Rattle.slacksim.specs.declared.answers.Answer.TheVariants.{BadWords, ReadFault, TooLong, BadImage, BadText, WriteFault, Limit, Done, OutOfMemory}
 
@@ -39,19 +40,19 @@ image_told config told = image_of config.base config.memory told
 
 -- the machine is that of cycle-by-cycle simulation of the image, at the checkpoint where the run stops
 pub record IsLockstepEnd (config : RawConfig) (image : Image) (m : Machine) : Type 0 where
-  pub state : state_of m ≡ lockstep (rules_of (code_of image config)) (start_of config image) m.clock
-  pub stops : Stops (rules_of (code_of image config)) config.interval config.limit (start_of config image) m.clock
+  pub state : state_of m ≡ lockstep (rules_of (code_of image config) config.buses) (start_of config image) m.clock
+  pub stops : Stops (rules_of (code_of image config) config.buses) config.interval config.limit (start_of config image) m.clock
 
 -- the core exited with 0
 abbrev pub is_zero_exit : CoreEnd → Bool
 is_zero_exit (Exit at code) = code == 0
 is_zero_exit _ = false
 
-abbrev pub running_of : List Inner → ℕ
-running_of cores = count_by (λ core. is_running core.ended) cores
+abbrev pub running_of : List (CoreValue Inner) → ℕ
+running_of cores = count_by (λ core. is_running core.inner.ended) cores
 
-abbrev pub all_zero_of : List Inner → Bool
-all_zero_of cores = list_all (λ core. is_zero_exit core.ended) cores
+abbrev pub all_zero_of : List (CoreValue Inner) → Bool
+all_zero_of cores = list_all (λ core. is_zero_exit core.inner.ended) cores
 
 -- what is answered of a machine whose whole text is written
 abbrev pub answer_of : Machine → Answer

@@ -1,4 +1,2 @@
-pub mod Lines
-pub mod Report
 pub mod Orders
 pub mod Answers

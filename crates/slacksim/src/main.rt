@@ -3,12 +3,9 @@
 
 mod answers;
 mod faults;
-mod lines;
 mod loads;
 mod orders;
-mod reports;
 mod simulation;
-mod texts;
 
 use faults::fault_text;
 use io_edge::{NeverHold, StdSink, StdSource};

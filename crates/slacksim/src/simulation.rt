@@ -9,17 +9,18 @@ ghost use Rattle.slack_base.specs.declared.faults.WordFault.{WordFault};
 ghost use Rattle.slack_base.specs.declared.faults.ImageFault.{ImageFault};
 ghost use Rattle.slacksim.specs.Answers.{EndsRun, HasEnd, IsWhole, IsLockstepEnd, RefusesImage, all_zero_of, answer_of, image_told, is_zero_exit, most_bytes, running_of, status_of};
 ghost use Rattle.slacksim.specs.Orders.{order_of};
-ghost use Rattle.slacksim.specs.Report.{report_of};
+ghost use Rattle.stat_report.specs.Report.{report_of};
 
 use crate::answers::{Answer, Finish};
 use crate::loads::{LoadError, MOST_BYTES, load};
 use crate::orders::read_words;
-use crate::reports::report_text;
 use io_edge::{Gate, Sink, Source, write_all};
-use lockstep_model::{Machine, RvTarget, TimedCore, run, start};
+use lockstep_model::{Machine, RvTarget, run, start};
 use slack_base::{Arg, Config, CoreEnd, Image, NoteList, OutOfMemory};
+use stat_report::report_text;
 use std::alloc::Global;
 use std::thread::Threads;
+use timed_core::TimedCore;
 
 /// Runs the command that the words give, over the bytes of the source, and writes its text to the sink.
 ///
@@ -50,8 +51,8 @@ pub fn simulate<R: Threads + Sync, S: Source, W: Sink, G: Gate + Sync>(
 
     // Writing: the whole report, or a front of it where the sink failed.
     ensures answer { IfSome result.end (λ m. (result.answer ≡ Answer.WriteFault) ⊎ (result.answer ≡ answer_of m)) }
-    ensures whole { IfSome result.end (λ m. IsOkAnd (order_of words.now) (λ config. IsWhole result.answer → W.written sink.new ≡ with_after (W.written sink.old) (report_of config.buses m))) }
-    ensures front { IfSome result.end (λ m. IsOkAnd (order_of words.now) (λ config. result.answer ≡ Answer.WriteFault → AppendsFront (W.written sink.old) (W.written sink.new) (report_of config.buses m))) }
+    ensures whole { IfSome result.end (λ m. IsOkAnd (order_of words.now) (λ config. IsWhole result.answer → W.written sink.new ≡ with_after (W.written sink.old) (report_of m))) }
+    ensures front { IfSome result.end (λ m. IsOkAnd (order_of words.now) (λ config. result.answer ≡ Answer.WriteFault → AppendsFront (W.written sink.old) (W.written sink.new) (report_of m))) }
     ensures write_fault { result.answer ≡ Answer.WriteFault → Rose (W.faults sink.old) (W.faults sink.new) }
     ensures nothing_written { IsNone result.end → sink.new ≡ sink.old }
 
@@ -84,12 +85,14 @@ pub fn simulate<R: Threads + Sync, S: Source, W: Sink, G: Gate + Sync>(
 }
 
 /// The machine of an image at the checkpoint where its run stops.
-fn run_image(alloc: Global, config: Config, image: &Image) -> Result<Machine, OutOfMemory>
+pub(crate) fn run_image(
+    alloc: Global,
+    config: Config,
+    image: &Image,
+) -> Result<Machine, OutOfMemory>
     requires { Fits config.base config.memory image.now }
     ensures end { IfOk result (IsLockstepEnd (numbers_of config) image.now) }
-    ensures clock { IfOk result (λ machine. machine.clock ≤ 2 ^ 62) }
     ensures cores { IfOk result (λ machine. length machine.cores ≤ 8) }
-    ensures chans { IfOk result (λ machine. length machine.chans ≡ 1) }
 {
     let interval = u64::from(config.interval);
     let limit = u64::from(config.limit);
@@ -178,8 +181,8 @@ fn run_and_write<W: Sink>(alloc: Global, config: Config, image: &Image, sink: &m
     requires { Fits config.base config.memory image.now }
     ensures answer { MatchOption result.end (result.answer ≡ Answer.OutOfMemory) (λ m. (result.answer ≡ Answer.WriteFault) ⊎ (result.answer ≡ answer_of m)) }
     ensures end { IfSome result.end (IsLockstepEnd (numbers_of config) image.now) }
-    ensures whole { IfSome result.end (λ m. IsWhole result.answer → W.written sink.new ≡ with_after (W.written sink.old) (report_of config.buses m)) }
-    ensures front { IfSome result.end (λ m. result.answer ≡ Answer.WriteFault → AppendsFront (W.written sink.old) (W.written sink.new) (report_of config.buses m)) }
+    ensures whole { IfSome result.end (λ m. IsWhole result.answer → W.written sink.new ≡ with_after (W.written sink.old) (report_of m)) }
+    ensures front { IfSome result.end (λ m. result.answer ≡ Answer.WriteFault → AppendsFront (W.written sink.old) (W.written sink.new) (report_of m)) }
     ensures write_fault { result.answer ≡ Answer.WriteFault → Rose (W.faults sink.old) (W.faults sink.new) }
     ensures nothing { IsNone result.end → sink.new ≡ sink.old }
     ensures status { result.status ≡ status_of result.answer }
@@ -188,7 +191,7 @@ fn run_and_write<W: Sink>(alloc: Global, config: Config, image: &Image, sink: &m
     let Ok(machine) = run_image(alloc, config, image) else {
         return refused(alloc, Answer::OutOfMemory);
     };
-    let Ok(text) = report_text(alloc, config.buses, &machine) else {
+    let Ok(text) = report_text(alloc, &machine) else {
         return refused(alloc, Answer::OutOfMemory);
     };
     let answer = match write_all(sink, text.as_slice()) {

@@ -11,7 +11,9 @@ use std::test::Fail;
 use std::thread::Threads;
 
 mod failures;
+mod machines;
 mod programs;
+mod sharing;
 mod words;
 
 /// An SLK1 file of these words from address 0 on, where it is entered.

@@ -70,13 +70,6 @@ fn jumps_and_traps(rt: HostRuntime) -> Result<(), Fail> {
     );
     runs!(
         rt,
-        [0x00001437, 0x00042283],
-        1,
-        2,
-        "trap unbuilt 00042283 at 1 retired 1"
-    );
-    runs!(
-        rt,
         [0x101422AF],
         1,
         1,

@@ -1,7 +1,6 @@
-use Rattle.std.proofs.Common.{◌-◌, ◌∙◌, sym, ap, refl, arith, rules}
+use Rattle.std.proofs.Common.{◌-◌, ◌∙◌, sym, ap, arith, rules}
 use Rattle.lockstep_model.specs.Cycle.{lockstep}
-use Rattle.lockstep_model.specs.Machine.{rules_of}
-use Rattle.lockstep_model.specs.Views.{state_of}
+use Rattle.lockstep_model.specs.Views.{state_of, rules_at}
 use Rattle.lockstep_model.proofs.Lockstep.{lockstep_none}
 use Rattle.lockstep_model.proofs.Running.{begins, stops, goes_on, later, is_over_at, below_limit}
 use Rattle.lockstep_model.proofs.runs.run.Goals as goal
@@ -10,15 +9,14 @@ pub loop-machine-init : goal.loop-machine-init
 loop-machine-init c = record {
   begun = omega arith;
   below = c.requires.begins;
-  goes = begins (rules_of c.args.target.now.code) c.args.interval c.args.limit (state_of c.args.machine.now);
-  state = lockstep_none (rules_of c.args.target.now.code) (state_of c.args.machine.now) _ (omega arith);
-  cores = refl;
-  chans = c.requires.chans;
+  goes = begins (rules_at c.args.target.now) c.args.interval c.args.limit (state_of c.args.machine.now);
+  state = lockstep_none (rules_at c.args.target.now) (state_of c.args.machine.now) _ (omega arith);
+  proper = c.requires.proper;
 }
 
 pub returns-then-is_over-clause-state : goal.returns-then-is_over-clause-state
 returns-then-is_over-clause-state c =
-    let laws = rules_of c.args.target.now.code in
+    let laws = rules_at c.args.target.now in
     let now = state_of c.loop-machine.machine in
     let clock = c.loop-machine.machine.clock in
     later laws c.args.interval c.args.limit (state_of c.args.machine.now) now (state_of c.run_to.new.machine) clock c.run_to.new.machine.clock
@@ -27,7 +25,7 @@ returns-then-is_over-clause-state c =
 
 pub returns-then-is_over-clause-stops : goal.returns-then-is_over-clause-stops
 returns-then-is_over-clause-stops c =
-    let laws = rules_of c.args.target.now.code in
+    let laws = rules_at c.args.target.now in
     let s = state_of c.args.machine.now in
     let now = state_of c.loop-machine.machine in
     let clock = c.loop-machine.machine.clock in
@@ -40,7 +38,7 @@ returns-then-is_over-clause-stops c =
 
 pub loop-machine-preserved : goal.loop-machine-preserved
 loop-machine-preserved c =
-    let laws = rules_of c.args.target.now.code in
+    let laws = rules_at c.args.target.now in
     let s = state_of c.args.machine.now in
     let now = state_of c.loop-machine.machine in
     let clock = c.loop-machine.machine.clock in
@@ -55,6 +53,5 @@ loop-machine-preserved c =
           (c.in_ok-run_to.ensures.clock ∙ c.min-next.ensures)
           (sym (is_over_at laws c.args.interval c.args.limit s (state_of c.run_to.new.machine) next c.is_over.result then c.is_over.ensures) ∙ c.if-is_over.false);
       state = then;
-      cores = c.in_ok-run_to.ensures.cores ∙ c.loop-machine.invariant.cores;
-      chans = c.in_ok-run_to.ensures.chans;
+      proper = c.in_ok-run_to.ensures.proper;
     }

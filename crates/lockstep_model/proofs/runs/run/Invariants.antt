@@ -1,7 +1,8 @@
-use Rattle.std.proofs.Common.{◌≡◌, ◌-◌, ◌<◌, ◌≤◌, length}
+use Rattle.std.proofs.Common.{◌≡◌, ◌-◌, ◌<◌, ◌≤◌}
+use Rattle.slack_base.specs.Numbers.{numbers_of}
 use Rattle.lockstep_model.specs.Cycle.{lockstep}
-use Rattle.lockstep_model.specs.Machine.{rules_of}
-use Rattle.lockstep_model.specs.Views.{state_of}
+use Rattle.lockstep_model.specs.Proper.{IsProper}
+use Rattle.lockstep_model.specs.Views.{state_of, rules_at}
 use Rattle.lockstep_model.proofs.Running.{Goes}
 use Rattle.lockstep_model.proofs.runs.run.Given as goal
 
@@ -11,10 +12,9 @@ invariant-loop-machine l =
     record {
       begun : l.fn.machine.clock ≤ l.machine.clock;
       below : l.machine.clock < l.limit;
-      goes : Goes (rules_of l.target.code) l.interval l.limit (state_of l.fn.machine) l.machine.clock;
-      state : state_of l.machine ≡ lockstep (rules_of l.target.code) (state_of l.fn.machine) (l.machine.clock - l.fn.machine.clock);
-      cores : length l.machine.cores ≡ length l.fn.machine.cores;
-      chans : length l.machine.chans ≡ 1;
+      goes : Goes (rules_at l.target) l.interval l.limit (state_of l.fn.machine) l.machine.clock;
+      state : state_of l.machine ≡ lockstep (rules_at l.target) (state_of l.fn.machine) (l.machine.clock - l.fn.machine.clock);
+      proper : IsProper (numbers_of l.target.config) (state_of l.machine);
     }
 
 abbrev pub decreases-loop-machine : goal.decreases-loop-machine

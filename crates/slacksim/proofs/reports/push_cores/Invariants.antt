@@ -1,8 +1,0 @@
-use Rattle.std.proofs.Common.{◌≡◌, ◌++◌, take}
-use Rattle.std.specs.List.{flat_map}
-use Rattle.slacksim.specs.Lines.{core_line}
-use Rattle.slacksim.proofs.reports.push_cores.Given as goal
-
--- the lines so far are appended
-abbrev pub invariant-loop-core : goal.invariant-loop-core
-invariant-loop-core l = l.text ≡ l.fn.text ++ flat_map (λ core. core_line l.clock core.number core.ended core.counts) (take l.core-index l.cores)

@@ -1,0 +1,7 @@
+use Rattle.std.proofs.Common.{◌≡◌, ◌≤◌, ◌^◌, take}
+use Rattle.stat_report.specs.Report.{last_end}
+use Rattle.stat_report.proofs.reports.last_end.Given as goal
+
+-- the greatest end so far
+abbrev pub invariant-loop-core : goal.invariant-loop-core
+invariant-loop-core l = (l.last ≡ last_end (take l.core-index l.cores)) × (l.last ≤ 2 ^ 62)
