@@ -1,5 +1,5 @@
 -- Generated programs.
-use Rattle.std.specs.Prelude.{◌≡◌, ℕ, pos, ◌+◌, ◌%◌, ◌^◌, ◌<◌, List, [], ◌∷◌, ◌++◌, map, length, flat_map}
+use Rattle.std.specs.Prelude.{◌≡◌, ℕ, pos, ◌+◌, ◌^◌, ◌<◌, List, [], ◌∷◌, ◌++◌, map, length, flat_map}
 use Rattle.std.specs.Int.{to_le_bytes, w32}
 use Rattle.std.specs.List.{AllZip}
 use Rattle.slack_base.specs.declared.images.Image.{Image}
@@ -13,7 +13,7 @@ use Rattle.workload_gen.specs.Draws.{draws}
 
 -- x8 is the address 65536 bytes past base, and x9 that 128 bytes further
 abbrev pub head : ℕ → List Instr
-head base = Lui 8 (upper_of ((base + 65536) % 2 ^ 32)) ∷ Imm Addi 9 8 (pos 128) ∷ []
+head base = Lui 8 (upper_of (base + 65536)) ∷ Imm Addi 9 8 (pos 128) ∷ []
 
 -- the exit service, with the code 0
 abbrev pub tail : List Instr

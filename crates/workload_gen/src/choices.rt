@@ -3,14 +3,8 @@ ghost use Rattle.std.specs.Prelude.{◌≡◌, ◌<◌, ◌≤◌};
 ghost use Rattle.rv_decode.specs.Ranges.{IsInRange};
 ghost use Rattle.workload_gen.specs.Choices.{register, instruction, step};
 
+use crate::registers::{COMPUTED, DATA, SUM};
 use slack_base::{AmoOp, ImmOp, Instr, LoadOp, RegOp, Step, StoreOp};
-
-/// The registers that drawn instructions compute with.
-const REGISTERS: [u32; 8] = [5, 6, 7, 18, 28, 29, 30, 31];
-/// The register with the address of the words that are loaded and stored.
-const DATA: u32 = 8;
-/// The register with the address of the word that atomic additions change.
-const SUM: u32 = 9;
 
 /// The instruction that a word chooses.
 #[tactic(auto, unfolding(crate::specs::Choices::instruction))]
@@ -81,7 +75,7 @@ fn register(choice: u32) -> u32
     ensures value { result ≡ register choice }
     ensures range { result < 32 }
 {
-    REGISTERS[(choice % 8) as usize]
+    COMPUTED[(choice % 8) as usize]
 }
 
 /// The step that a word chooses, of so many cores.

@@ -4,7 +4,11 @@
 mod choices;
 mod draws;
 mod interleavings;
+pub mod laws;
 mod programs;
+mod registers;
+#[cfg(test)]
+mod tests;
 
 pub use interleavings::steps;
 pub use programs::program;

@@ -1,11 +1,12 @@
 //! Generated programs.
-ghost use Rattle.std.specs.Prelude.{◌≡◌, ◌^◌, ◌<◌, ◌≤◌, All, IfOk, length};
+ghost use Rattle.std.specs.Prelude.{◌≡◌, ◌+◌, ◌^◌, ◌<◌, ◌≤◌, All, IfOk, length};
 ghost use Rattle.slack_base.specs.Images.{Fits};
 ghost use Rattle.rv_decode.specs.Ranges.{IsInRange};
 ghost use Rattle.workload_gen.specs.Programs.{IsProgram, AreBytesOf, program, head, tail, image_at};
 
 use crate::choices::instruction;
 use crate::draws::Draws;
+use crate::registers::{ARGUMENT, DATA, SERVICE, SUM};
 use rv_decode::encode;
 use slack_base::{ByteList, Config, Image, ImmOp, Instr, OutOfMemory, Segment, SegmentList};
 use std::alloc::Global;
@@ -14,6 +15,10 @@ use std::alloc::Global;
 const DRAWN: u32 = 1000;
 /// How far the words that a program loads and stores lie past the base of memory, in bytes.
 const DATA_OFFSET: u32 = 65536;
+/// How far the word that it adds to lies past the first of them, in bytes.
+const SUM_OFFSET: i32 = 128;
+/// The number of the service that ends a core.
+const EXIT: i32 = 93;
 
 /// The program of a seed: 1005 words from the base of memory on, its entry. It loads and stores the 64 words that
 /// lie 65536 bytes further, and then exits with the code 0.
@@ -47,6 +52,7 @@ fn image_at(alloc: Global, base: u32, bytes: Vec<u8>) -> Result<Image, OutOfMemo
 
 /// The instructions of the program of a seed.
 fn instructions(alloc: Global, seed: u32, base: u32) -> Result<Vec<Instr>, OutOfMemory>
+    requires { base + 65536 < 2 ^ 32 }
     ensures value { IfOk result (λ instrs. instrs.items ≡ program seed base) }
     ensures range { IfOk result (λ instrs. All IsInRange instrs.items) }
 {
@@ -60,13 +66,14 @@ fn instructions(alloc: Global, seed: u32, base: u32) -> Result<Vec<Instr>, OutOf
     Ok(instrs)
 }
 
-/// The instructions that give x8 and x9 the addresses of the words that a program loads, stores and adds to.
+/// The instructions that set the addresses of the words that a program loads, stores and adds to.
 fn head(base: u32) -> [Instr; 2]
+    requires { base + 65536 < 2 ^ 32 }
     ensures value { result ≡ head base }
     ensures range { All IsInRange result }
 {
-    let upper = base.wrapping_add(DATA_OFFSET) >> 12;
-    [Instr::Lui { rd: 8, upper }, addi(9, 8, 128)]
+    let upper = (base + DATA_OFFSET) >> 12;
+    [Instr::Lui { rd: DATA, upper }, addi(SUM, DATA, SUM_OFFSET)]
 }
 
 /// The instructions that exit with the code 0.
@@ -74,7 +81,7 @@ fn tail() -> [Instr; 3]
     ensures value { result ≡ tail }
     ensures range { All IsInRange result }
 {
-    [addi(17, 0, 93), addi(10, 0, 0), Instr::Ecall]
+    [addi(SERVICE, 0, EXIT), addi(ARGUMENT, 0, 0), Instr::Ecall]
 }
 
 fn addi(rd: u32, rs1: u32, value: i32) -> Instr
