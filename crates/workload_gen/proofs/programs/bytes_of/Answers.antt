@@ -1,4 +1,4 @@
-use Rattle.std.proofs.Common.{[], length, sym, subst, rules}
+use Rattle.std.proofs.Common.{[], sym, subst, rules}
 use Rattle.std.proofs.lemmas.List.{take_all}
 use Rattle.workload_gen.specs.Programs.{AreBytesOf}
 use Rattle.workload_gen.proofs.Coding.{bytes_start, bytes_more}

@@ -1,4 +1,4 @@
-use Rattle.std.proofs.Common.{[], ◌++◌, ◌∙◌, ap, map, append_assoc, All, sym, subst, rules}
+use Rattle.std.proofs.Common.{◌++◌, ◌∙◌, ap, map, append_assoc, All, sym, subst, rules}
 use Rattle.std.proofs.lemmas.List.Elements.{All-append, All-push}
 use Rattle.rv_decode.specs.Ranges.{IsInRange}
 use Rattle.workload_gen.specs.Choices.{instruction}
