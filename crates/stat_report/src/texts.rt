@@ -1,0 +1,94 @@
+//! A text that grows.
+ghost use Rattle.std.specs.Prelude.{◌≡◌, ◌<◌, ◌++◌, [], OnOk};
+ghost use Rattle.rv_decode.specs.Texts.{text};
+ghost use Rattle.stat_report.specs.Hexadecimal.{hex_word, hex_digit};
+
+use rv_decode::text_of;
+use slack_base::{ByteList, Instr, OutOfMemory};
+use std::alloc::Global;
+use std::marker::Model;
+
+/// A text in bytes. A contract sees the list of its bytes.
+#[derive(Drop)]
+pub(crate) struct Text {
+    alloc: Global,
+    bytes: Vec<u8>,
+}
+
+impl Model for Text {
+    ghost use Rattle.std.specs.Prelude.{List, ℕ};
+
+    ghost Value = { List ℕ };
+
+    ghost view = { λ t. t.bytes.items };
+}
+
+impl Text {
+    /// The empty text. It takes no memory.
+    pub(crate) fn new(alloc: Global) -> Text
+        ensures { result ≡ [] }
+    {
+        Text {
+            alloc,
+            bytes: Vec::new(alloc),
+        }
+    }
+
+    /// The bytes of the text.
+    pub(crate) fn into_list(self) -> ByteList
+        ensures { result ≡ self }
+    {
+        ByteList::of(self.bytes)
+    }
+
+    /// Appends bytes.
+    pub(crate) fn push_bytes(&mut self, bytes: &[u8]) -> Result<(), OutOfMemory>
+        ensures { OnOk result (self.new ≡ self.old ++ bytes.now) }
+    {
+        self.bytes.extend_from_slice(bytes)?;
+        Ok(())
+    }
+
+    /// Appends a piece of text.
+    pub(crate) fn push_str(&mut self, piece: &str) -> Result<(), OutOfMemory>
+        ensures { OnOk result (self.new ≡ self.old ++ piece.now) }
+    {
+        self.push_bytes(piece.as_bytes())
+    }
+
+    /// Appends the text of an instruction.
+    pub(crate) fn push_instr(&mut self, instr: &Instr) -> Result<(), OutOfMemory>
+        ensures { OnOk result (self.new ≡ self.old ++ text instr.now) }
+    {
+        let text = text_of(self.alloc, instr)?;
+        self.push_bytes(text.as_slice())
+    }
+
+    /// Appends the eight hexadecimal digits of a word.
+    #[tactic(auto, unfolding(crate::specs::Hexadecimal::hex_word))]
+    pub(crate) fn push_hex(&mut self, word: u32) -> Result<(), OutOfMemory>
+        ensures { OnOk result (self.new ≡ self.old ++ hex_word word) }
+    {
+        self.push_bytes(&[
+            hex_digit(word / 0x1000_0000 % 16),
+            hex_digit(word / 0x100_0000 % 16),
+            hex_digit(word / 0x10_0000 % 16),
+            hex_digit(word / 0x1_0000 % 16),
+            hex_digit(word / 0x1000 % 16),
+            hex_digit(word / 0x100 % 16),
+            hex_digit(word / 0x10 % 16),
+            hex_digit(word % 16),
+        ])
+    }
+}
+
+fn hex_digit(digit: u32) -> u8
+    requires { digit < 16 }
+    ensures { result ≡ hex_digit digit }
+{
+    if digit < 10 {
+        48 + digit as u8
+    } else {
+        87 + digit as u8
+    }
+}
