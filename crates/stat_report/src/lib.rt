@@ -1,7 +1,10 @@
 //! Texts on images.
 #![tactic(auto)]
 
+pub mod laws;
 mod listings;
+#[cfg(test)]
+mod tests;
 mod texts;
 
 pub use listings::listing;
