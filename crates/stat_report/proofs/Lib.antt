@@ -1,0 +1,3 @@
+mod ListedLines
+mod Order
+mod Unique

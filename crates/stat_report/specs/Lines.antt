@@ -1,21 +1,12 @@
 -- The lines of the report.
-use Rattle.std.specs.Prelude.{ℕ, ◌+◌, ◌/◌, ◌%◌, ◌^◌, List, [], ◌∷◌, ◌++◌, codes, nat_lt, if◌then◌else◌}
+use Rattle.std.specs.Prelude.{ℕ, List, ◌++◌, codes}
 use Rattle.std.specs.Fmt.{decimal}
 use Rattle.slack_base.specs.declared.cores.Counts.{Counts}
 use Rattle.slack_base.specs.declared.cores.CoreEnd.{CoreEnd}
 use Rattle.slack_base.specs.declared.cores.CoreEnd.TheVariants.{Running, Exit, Trapped}
 use Rattle.slack_base.specs.declared.cores.Trap.{Trap}
 use Rattle.slack_base.specs.declared.cores.Trap.TheVariants.{Illegal, Fetch, Target, Misaligned, Outside, Break, Call}
-
--- a hexadecimal digit, in lower case
-abbrev pub hex_digit : ℕ → ℕ
-hex_digit d = if nat_lt d 10 then 48 + d else 87 + d
-
--- the eight hexadecimal digits of a word, the highest first
-abbrev pub hex_word : ℕ → List ℕ
-hex_word w =
-    hex_digit (w / 16 ^ 7 % 16) ∷ hex_digit (w / 16 ^ 6 % 16) ∷ hex_digit (w / 16 ^ 5 % 16) ∷ hex_digit (w / 16 ^ 4 % 16)
-    ∷ hex_digit (w / 16 ^ 3 % 16) ∷ hex_digit (w / 16 ^ 2 % 16) ∷ hex_digit (w / 16 % 16) ∷ hex_digit (w % 16) ∷ []
+use Rattle.stat_report.specs.Hexadecimal.{hex_word}
 
 abbrev pub trap_name : Trap → List ℕ
 trap_name (Illegal bits) = codes "illegal"

@@ -1,6 +1,7 @@
 //! The lines of the report.
 ghost use Rattle.std.specs.Prelude.{◌≡◌, ◌++◌, OnOk, codes};
-ghost use Rattle.stat_report.specs.Lines.{core_line, counts_text, end_text, end_cycle, trap_name, trap_value, hex_word};
+ghost use Rattle.stat_report.specs.Hexadecimal.{hex_word};
+ghost use Rattle.stat_report.specs.Lines.{core_line, counts_text, end_text, end_cycle, trap_name, trap_value};
 
 use crate::texts::Text;
 use slack_base::{CoreEnd, Counts, OutOfMemory, Trap};

@@ -1,9 +1,12 @@
 //! A text that grows.
 ghost use Rattle.std.specs.Prelude.{◌≡◌, ◌<◌, ◌++◌, [], OnOk};
 ghost use Rattle.std.specs.Fmt.{decimal};
-ghost use Rattle.stat_report.specs.Lines.{field, hex_word, hex_digit};
+ghost use Rattle.rv_decode.specs.Texts.{text};
+ghost use Rattle.stat_report.specs.Hexadecimal.{hex_word, hex_digit};
+ghost use Rattle.stat_report.specs.Lines.{field};
 
-use slack_base::{ByteList, OutOfMemory};
+use rv_decode::text_of;
+use slack_base::{ByteList, Instr, OutOfMemory};
 use std::alloc::Global;
 use std::marker::Model;
 
@@ -72,7 +75,16 @@ impl Text {
         self.push_decimal(n)
     }
 
+    /// Appends the text of an instruction.
+    pub fn push_instr(&mut self, instr: &Instr) -> Result<(), OutOfMemory>
+        ensures { OnOk result (self.new ≡ self.old ++ text instr.now) }
+    {
+        let text = text_of(self.alloc, instr)?;
+        self.push_bytes(text.as_slice())
+    }
+
     /// Appends the eight hexadecimal digits of a word.
+    #[tactic(auto, unfolding(crate::specs::Hexadecimal::hex_word))]
     pub fn push_hex(&mut self, word: u32) -> Result<(), OutOfMemory>
         ensures { OnOk result (self.new ≡ self.old ++ hex_word word) }
     {

@@ -1,0 +1,4 @@
+mod Coding
+mod Drawing
+mod OneImage
+mod Size

@@ -1,0 +1,3 @@
+pub mod Choices
+pub mod Draws
+pub mod Programs
