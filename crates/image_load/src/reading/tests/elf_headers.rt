@@ -27,47 +27,30 @@ fn fronts(rt: HostRuntime) -> Result<(), Fail> {
 #[test]
 fn other_machines(rt: HostRuntime) -> Result<(), Fail> {
     let config = config().ok_or("the numbers are within their bounds")?;
-    let good = executable(65536, 1, &[LOADED]);
-    let others = [
-        Elf { class: 0, ..good },
-        Elf { class: 2, ..good },
-        Elf {
-            encoding: 0,
-            ..good
-        },
-        Elf {
-            encoding: 2,
-            ..good
-        },
-        Elf {
-            file_type: 1,
-            ..good
-        },
-        Elf {
-            file_type: 3,
-            ..good
-        },
-        Elf {
-            file_type: 0x0102,
-            ..good
-        },
-        Elf {
-            machine: 242,
-            ..good
-        },
-        Elf {
-            machine: 244,
-            ..good
-        },
-        Elf {
-            machine: 0x01f3,
-            ..good
-        },
+    let rows = [
+        (0, 1, 2, 243),
+        (2, 1, 2, 243),
+        (1, 0, 2, 243),
+        (1, 2, 2, 243),
+        (1, 1, 1, 243),
+        (1, 1, 3, 243),
+        (1, 1, 0x0102, 243),
+        (1, 1, 2, 242),
+        (1, 1, 2, 244),
+        (1, 1, 2, 0x01f3),
     ];
-    for elf in others {
+    for (class, encoding, file_type, machine) in rows {
+        let elf = Elf {
+            class,
+            encoding,
+            file_type,
+            machine,
+            ..executable(65536, 1, &[LOADED])
+        };
         assert_eq!(rt;
             fault_in(rt.alloc(), &elf, &config)?,
-            Some(ImageFault::Machine)
+            Some(ImageFault::Machine),
+            "{class}, {encoding}, {file_type}, {machine}"
         );
     }
     Ok(())
