@@ -84,8 +84,8 @@ fn header_sizes(rt: HostRuntime) -> Result<(), Fail> {
     Ok(())
 }
 
-/// The headers end in the file. The last that fits begins in the middle of the one that was written, at its physical
-/// address, which is no type that is loaded; and so is the file's own front.
+/// The headers must end within the file. A header at 64, the last place that fits, has the physical address of the one
+/// at 52 for its type, and a header at 0 the file's magic: neither is a type that is loaded.
 #[test]
 fn places_of_headers(rt: HostRuntime) -> Result<(), Fail> {
     let config = config().ok_or("the numbers are within their bounds")?;
