@@ -152,46 +152,4 @@ impl Cache {
 }
 
 #[cfg(test)]
-mod tests {
-    use super::*;
-    use std::test::Fail;
-
-    fn words_of(line: u32) -> Words {
-        Words {
-            w0: line,
-            w1: 0,
-            w2: 0,
-            w3: 0,
-        }
-    }
-
-    #[test]
-    fn the_least_recent_line_falls_out(rt: HostRuntime) -> Result<(), Fail> {
-        let mut cache = Cache::new(rt.alloc(), 1, 2)?;
-        // the line that is filled, and the one that falls out
-        let rows = [(1, None), (2, None), (1, None), (3, Some(2)), (4, Some(1))];
-        for (line, fallen) in rows {
-            let victim = cache.fill(line, true, words_of(line));
-            assert_eq!(rt; victim.map(|v| v.line), fallen);
-        }
-        Ok(())
-    }
-
-    #[test]
-    fn a_copy_holds_the_same_lines(rt: HostRuntime) -> Result<(), Fail> {
-        let mut cache = Cache::new(rt.alloc(), 4, 1)?;
-        cache.fill(5, false, words_of(5));
-        let copied = cache.copy()?;
-        cache.fill(9, true, words_of(9));
-        // the line, and its state in the copy and in the cache
-        let rows = [
-            (5, Some(Held::Shared), None),
-            (9, None, Some(Held::Exclusive)),
-        ];
-        for (line, in_copy, in_cache) in rows {
-            assert_eq!(rt; copied.lookup(line), in_copy);
-            assert_eq!(rt; cache.lookup(line), in_cache);
-        }
-        Ok(())
-    }
-}
+mod tests;

@@ -29,6 +29,15 @@ const TWO_CORES: RawConfig = RawConfig {
     quantum: 0,
 };
 
+/// The same with four buses.
+const FOUR_BUSES: RawConfig = RawConfig {
+    buses: 4,
+    ..TWO_CORES
+};
+
+/// The cycle at which a bus's numbers stop: 2^62.
+const TOP: u64 = 4611686018427387904;
+
 /// What a core asks of a line.
 #[derive(Clone, Copy)]
 enum Request {
@@ -72,41 +81,60 @@ fn ask_of(id: Id, line: u32, request: Request) -> Ask {
     }
 }
 
-/// Whether the post goes to this core, with this due, and says this of the line.
-fn is_post(post: &Post, line: u32, wanted: &(u32, u64, PostKind)) -> bool {
-    post.to == wanted.0 && post.due == wanted.1 && post.kind == wanted.2 && post.line == line
+/// Whether the post of an ask goes to this core, with this due, and says this of the ask's line.
+fn is_post(post: &Post, ask: &Ask, wanted: &(u32, u64, PostKind)) -> bool {
+    let of_ask = post.id == ask.id() && Some(post.line) == ask.line();
+    of_ask && post.to == wanted.0 && post.due == wanted.1 && post.kind == wanted.2
 }
 
 /// An ask and the post that comes of it, if one does: the core, the cycle of the stamp and the ask's number in its
 /// tick, the line, and what is asked; and then the core that the post goes to, its due and what it says.
 type Exchange = ((u32, u64, u64), u32, Request, Option<(u32, u64, PostKind)>);
 
-/// Serves an ask on the one bus, and says whether this post alone came of it.
-fn sends(
+/// Serves an ask on the bus of a number, and says whether the bus may be asked it. The posts are then the list's.
+fn serve_on(
     bus: &mut Channel,
+    index: u32,
     config: &Config,
     ask: &Ask,
-    wanted: &Option<(u32, u64, PostKind)>,
     out: &mut PostList,
 ) -> Result<bool, OutOfMemory>
-    requires { setting_of bus.old ≡ Some (0, numbers_of config.now) }
+    requires { setting_of bus.old ≡ Some (index, numbers_of config.now) }
     ensures { OnOk result (setting_of bus.new ≡ setting_of bus.old) }
 {
     let id = ask.id();
     let Some(line) = ask.line() else {
         return Ok(false);
     };
-    if config.buses != 1 || id.core >= config.cores || id.cycle > 100 {
+    if config.buses == 0 || line % config.buses != index || line >= config.memory / 16 {
         return Ok(false);
     }
-    if line >= config.memory / 16 {
+    if id.core >= config.cores || id.cycle > TOP {
         return Ok(false);
     }
     out.clear();
     bus.serve(ask, out)?;
+    Ok(true)
+}
+
+/// Serves an ask on the bus of a number, and says whether this post alone came of it.
+fn sends(
+    bus: &mut Channel,
+    index: u32,
+    config: &Config,
+    ask: &Ask,
+    wanted: &Option<(u32, u64, PostKind)>,
+    out: &mut PostList,
+) -> Result<bool, OutOfMemory>
+    requires { setting_of bus.old ≡ Some (index, numbers_of config.now) }
+    ensures { OnOk result (setting_of bus.new ≡ setting_of bus.old) }
+{
+    if !serve_on(bus, index, config, ask, out)? {
+        return Ok(false);
+    }
     match (out.as_slice(), wanted) {
         ([], None) => Ok(true),
-        ([post], Some(post_wanted)) => Ok(is_post(post, line, post_wanted)),
+        ([post], Some(post_wanted)) => Ok(is_post(post, ask, post_wanted)),
         _ => Ok(false),
     }
 }
@@ -114,11 +142,12 @@ fn sends(
 /// Serves asks one after another, and says whether each time the post came that is written beside it.
 fn all_send(
     bus: &mut Channel,
+    index: u32,
     config: &Config,
     lines: &[Exchange],
     out: &mut PostList,
 ) -> Result<bool, OutOfMemory>
-    requires { setting_of bus.old ≡ Some (0, numbers_of config.now) }
+    requires { setting_of bus.old ≡ Some (index, numbers_of config.now) }
     ensures { OnOk result (setting_of bus.new ≡ setting_of bus.old) }
 {
     for ((core, cycle, number), line, request, wanted) in lines {
@@ -127,14 +156,29 @@ fn all_send(
             core: *core,
             number: *number,
         };
-        if !sends(bus, config, &ask_of(id, *line, *request), wanted, out)? {
+        if !sends(
+            bus,
+            index,
+            config,
+            &ask_of(id, *line, *request),
+            wanted,
+            out,
+        )? {
             return Ok(false);
         }
     }
     Ok(true)
 }
 
-/// An image whose one segment begins at line 256.
+/// The words of the last line of memory.
+const LAST: Words = Words {
+    w0: 0xdeadbeef,
+    w1: 0xffffffff,
+    w2: 0x80000000,
+    w3: 0x01020304,
+};
+
+/// An image of two segments, one at line 256, and one that is the last line of memory.
 fn image(alloc: Global) -> Result<Image, OutOfMemory>
     ensures { IfOk result (λ image. Fits 0 8192 image) }
 {
@@ -146,6 +190,15 @@ fn image(alloc: Global) -> Result<Image, OutOfMemory>
     };
     let mut segments = SegmentList::new(alloc);
     segments.push(segment)?;
+    let bytes = ByteList::of(vec![in alloc;
+        0xefu8, 0xbe, 0xad, 0xde, 255, 255, 255, 255, 0, 0, 0, 0x80, 4, 3, 2, 1,
+    ]?);
+    let last = Segment {
+        address: 8176,
+        bytes,
+        size: 16,
+    };
+    segments.push(last)?;
     Ok(Image { entry: 0, segments })
 }
 
@@ -158,22 +211,24 @@ fn bus_of(alloc: Global, config: &Config) -> Result<Channel, OutOfMemory>
     Channel::bus(alloc, 0, config, &image)
 }
 
+/// The entry of a line that no core holds, with these words in memory.
+fn idle(words: Words) -> EntryView {
+    EntryView {
+        kind: EntryKind::Idle,
+        settled: 0,
+        words,
+    }
+}
+
 #[test]
 fn a_bus_begins_with_the_image(rt: HostRuntime) -> Result<(), Fail> {
     let config = Config::checked(TWO_CORES).expect(&rt, "two cores");
     let bus = bus_of(rt.alloc(), &config)?;
-    let wanted = EntryView {
-        kind: EntryKind::Idle,
-        settled: 0,
-        words: Words {
-            w0: 0x04030201,
-            w1: 5,
-            w2: 0,
-            w3: 0,
-        },
-    };
-    assert_eq!(rt; bus.entry(256), wanted);
+    assert_eq!(rt; bus.entry(256), idle(words_of(0x04030201, 5)));
+    assert_eq!(rt; bus.entry(511), idle(LAST));
+    assert_eq!(rt; bus.entry(0), idle(words_of(0, 0)));
     assert_eq!(rt; bus.lines(), 512);
+    assert_eq!(rt; (bus.asks(), bus.retries(), bus.free()), (0, 0, 0));
     assert!(rt; bus.console_bytes().is_empty());
     Ok(())
 }
@@ -204,7 +259,7 @@ fn two_cores_store_to_one_line(rt: HostRuntime) -> Result<(), Fail> {
             Some((1, 18, reply(true, 1, 0))),
         ),
     ];
-    assert!(rt; all_send(&mut bus, &config, &lines, &mut out)?);
+    assert!(rt; all_send(&mut bus, 0, &config, &lines, &mut out)?);
     assert_eq!(rt; (bus.asks(), bus.retries(), bus.free()), (8, 5, 17));
     Ok(())
 }
@@ -241,8 +296,180 @@ fn a_write_back_passes_a_snoop(rt: HostRuntime) -> Result<(), Fail> {
             Some((1, 28, reply(false, 4096, 0))),
         ),
     ];
-    assert!(rt; all_send(&mut bus, &config, &lines, &mut out)?);
+    assert!(rt; all_send(&mut bus, 0, &config, &lines, &mut out)?);
     assert_eq!(rt; (bus.asks(), bus.retries(), bus.free()), (5, 0, 27));
+    Ok(())
+}
+
+/// The cores that share a line, but the one that takes it, lose it, and then it gets its reply.
+#[test]
+fn a_shared_line_is_taken(rt: HostRuntime) -> Result<(), Fail> {
+    let config = Config::checked(TWO_CORES).expect(&rt, "two cores");
+    let mut bus = bus_of(rt.alloc(), &config)?;
+    let mut out = PostList::new(rt.alloc());
+    let lines = [
+        (
+            (0, 1, 0),
+            511,
+            Request::Read,
+            Some((0, 11, last_line(true))),
+        ),
+        (
+            (1, 12, 0),
+            511,
+            Request::Read,
+            Some((0, 14, PostKind::SnoopShare)),
+        ),
+        (
+            (0, 14, 0),
+            511,
+            Request::Flush(Some(7)),
+            Some((1, 17, reply(false, 7, 0))),
+        ),
+        (
+            (0, 18, 0),
+            511,
+            Request::Read,
+            Some((0, 28, reply(false, 7, 0))),
+        ),
+    ];
+    assert!(rt; all_send(&mut bus, 0, &config, &lines, &mut out)?);
+    let id = Id {
+        cycle: 30,
+        core: 0,
+        number: 0,
+    };
+    assert!(rt;
+        serve_on(
+            &mut bus,
+            0,
+            &config,
+            &Ask::ReadOwn { id, line: 511 },
+            &mut out
+        )?
+    );
+    let lost = Post {
+        to: 1,
+        due: 32,
+        id,
+        line: 511,
+        kind: PostKind::Invalidate,
+    };
+    let got = Post {
+        to: 0,
+        due: 40,
+        kind: reply(true, 7, 0),
+        ..lost
+    };
+    assert_eq!(rt; out.as_slice(), [lost, got].as_slice());
+    assert_eq!(rt; (bus.asks(), bus.retries(), bus.free()), (5, 0, 32));
+    Ok(())
+}
+
+/// A reply with the last line of memory.
+fn last_line(exclusive: bool) -> PostKind {
+    let words = LAST;
+    PostKind::Reply { exclusive, words }
+}
+
+/// Lines go round the buses, and bytes go to the channel behind them.
+#[test]
+fn channels_of_asks(rt: HostRuntime) {
+    let id = Id {
+        cycle: 0,
+        core: 0,
+        number: 0,
+    };
+    let (even, odd) = (Ask::Read { id, line: 510 }, Ask::ReadOwn { id, line: 257 });
+    let put = Ask::Put { id, byte: 65 };
+    assert_eq!(rt; (channel_of(&even, 1), channel_of(&odd, 1)), (0, 0));
+    assert_eq!(rt; (channel_of(&even, 2), channel_of(&odd, 2)), (0, 1));
+    assert_eq!(rt; (channel_of(&even, 4), channel_of(&odd, 4)), (2, 1));
+    assert_eq!(rt; (channel_of(&put, 1), channel_of(&put, 4)), (1, 4));
+}
+
+/// Of four buses each has a quarter of the lines, its own alone.
+#[test]
+fn four_buses(rt: HostRuntime) -> Result<(), Fail> {
+    let config = Config::checked(FOUR_BUSES).expect(&rt, "four buses");
+    let image = image(rt.alloc())?;
+    let first = Channel::bus(rt.alloc(), 0, &config, &image)?;
+    assert_eq!(rt; first.lines(), 128);
+    assert_eq!(rt; first.entry(256), idle(words_of(0x04030201, 5)));
+    assert_eq!(rt; first.entry(508), idle(words_of(0, 0)));
+    let last = Channel::bus(rt.alloc(), 3, &config, &image)?;
+    assert_eq!(rt; last.lines(), 128);
+    assert_eq!(rt; last.entry(511), idle(LAST));
+    assert_eq!(rt; last.entry(3), idle(words_of(0, 0)));
+    Ok(())
+}
+
+/// An ask at one of four buses changes the entry of its line alone.
+#[test]
+fn lines_of_one_bus(rt: HostRuntime) -> Result<(), Fail> {
+    let config = Config::checked(FOUR_BUSES).expect(&rt, "four buses");
+    let image = image(rt.alloc())?;
+    let mut bus = Channel::bus(rt.alloc(), 1, &config, &image)?;
+    let mut out = PostList::new(rt.alloc());
+    let lines = [
+        (
+            (0, 1, 0),
+            257,
+            Request::Read,
+            Some((0, 11, reply(true, 0, 0))),
+        ),
+        (
+            (1, 1, 0),
+            509,
+            Request::ReadOwn,
+            Some((1, 13, reply(true, 0, 0))),
+        ),
+    ];
+    assert!(rt; all_send(&mut bus, 1, &config, &lines, &mut out)?);
+    assert_eq!(rt; bus.entry(257), owned(0, 12));
+    assert_eq!(rt; bus.entry(509), owned(1, 14));
+    assert_eq!(rt; bus.entry(253), idle(words_of(0, 0)));
+    assert_eq!(rt; (bus.asks(), bus.retries(), bus.free()), (2, 0, 5));
+    Ok(())
+}
+
+/// The entry of a line of zeros that a core owns.
+fn owned(core: u32, settled: u64) -> EntryView {
+    EntryView {
+        kind: EntryKind::Owned { core },
+        settled,
+        words: words_of(0, 0),
+    }
+}
+
+/// The cycle from which a bus is free stops at 2^62, and asks are granted there from then on.
+#[test]
+fn the_end_of_time(rt: HostRuntime) -> Result<(), Fail> {
+    let config = Config::checked(TWO_CORES).expect(&rt, "two cores");
+    let mut bus = bus_of(rt.alloc(), &config)?;
+    let mut out = PostList::new(rt.alloc());
+    let lines = [
+        (
+            (0, TOP - 1, 0),
+            257,
+            Request::Read,
+            Some((0, TOP + 9, reply(true, 0, 0))),
+        ),
+        (
+            (1, 5, 0),
+            257,
+            Request::ReadOwn,
+            Some((1, TOP + 2, PostKind::Retry)),
+        ),
+        (
+            (1, TOP, 0),
+            258,
+            Request::Read,
+            Some((1, TOP + 10, reply(true, 0, 0))),
+        ),
+    ];
+    assert!(rt; all_send(&mut bus, 0, &config, &lines, &mut out)?);
+    assert_eq!(rt; (bus.asks(), bus.retries(), bus.free()), (3, 1, TOP));
     Ok(())
 }
 

@@ -3,18 +3,23 @@ use slack_base::{Id, PostKind};
 use std::alloc::Global;
 use std::test::Fail;
 
-fn post(due: u64, cycle: u64, core: u32) -> Post {
+/// A retry of this id.
+fn retry(due: u64, id: (u64, u32, u64)) -> Post {
     Post {
         to: 0,
         due,
         id: Id {
-            cycle,
-            core,
-            number: 0,
+            cycle: id.0,
+            core: id.1,
+            number: id.2,
         },
         line: 0,
         kind: PostKind::Retry,
     }
+}
+
+fn post(due: u64, cycle: u64, core: u32) -> Post {
+    retry(due, (cycle, core, 0))
 }
 
 fn inbox_of(alloc: Global, posts: &[Post]) -> Result<Inbox, OutOfMemory> {
@@ -48,6 +53,88 @@ fn posts_in_their_order(rt: HostRuntime) -> Result<(), Fail> {
     ];
     for (cycle, taken) in takes {
         assert_eq!(rt; inbox.take_due(cycle), taken);
+    }
+    assert!(rt; inbox.is_empty());
+    Ok(())
+}
+
+/// The due comes before the id, and of the id the cycle, the core and the number, in this order.
+#[test]
+fn the_order_of_fields(rt: HostRuntime) -> Result<(), Fail> {
+    let sorted = [
+        retry(6, (9, 9, 9)),
+        retry(7, (1, 2, 3)),
+        retry(7, (1, 2, 4)),
+        retry(7, (1, 3, 0)),
+        retry(7, (2, 0, 0)),
+        retry(8, (0, 0, 0)),
+    ];
+    let inbox = inbox_of(rt.alloc(), &sorted)?;
+    assert_eq!(rt; inbox.as_slice(), sorted.as_slice());
+    let mut turned = Inbox::new(rt.alloc());
+    for post in sorted.iter().rev() {
+        turned.put(*post)?;
+    }
+    assert_eq!(rt; turned.as_slice(), sorted.as_slice());
+    Ok(())
+}
+
+/// Posts of one due and one id stay in the order in which they were put.
+#[test]
+fn equal_posts(rt: HostRuntime) -> Result<(), Fail> {
+    let (first, last) = (post(6, 1, 0), post(7, 1, 1));
+    let equal = post(7, 1, 0);
+    let mut inbox = inbox_of(rt.alloc(), &[last, first])?;
+    for line in [30, 10, 20] {
+        inbox.put(Post { line, ..equal })?;
+    }
+    assert_eq!(rt; inbox.len(), 5);
+    assert_eq!(rt; inbox.take_due(7), Some(first));
+    for line in [30, 10, 20] {
+        assert_eq!(rt; inbox.take_due(7), Some(Post { line, ..equal }));
+    }
+    assert_eq!(rt; inbox.take_due(7), Some(last));
+    assert_eq!(rt; inbox.take_due(7), None);
+    Ok(())
+}
+
+/// A post waits before its due, and is taken at it and at any time after.
+#[test]
+fn before_at_and_after(rt: HostRuntime) -> Result<(), Fail> {
+    let greatest = u64::MAX;
+    let rows = [
+        (5, 0, false),
+        (5, 4, false),
+        (5, 5, true),
+        (5, 6, true),
+        (5, greatest, true),
+        (0, 0, true),
+        (greatest, greatest - 1, false),
+        (greatest, greatest, true),
+    ];
+    for (due, cycle, is_due) in rows {
+        let waiting = post(due, 1, 0);
+        let mut inbox = inbox_of(rt.alloc(), &[waiting])?;
+        assert_eq!(rt; inbox.take_due(cycle), is_due.then_some(waiting));
+        assert_eq!(rt; inbox.is_empty(), is_due, "{due} at {cycle}");
+    }
+    Ok(())
+}
+
+/// A post with a later due hides none with a sooner one, and an empty inbox gives none.
+#[test]
+fn nothing_is_lost(rt: HostRuntime) -> Result<(), Fail> {
+    let mut inbox = Inbox::new(rt.alloc());
+    assert_eq!(rt; inbox.take_due(9), None);
+    for due in 0..20 {
+        inbox.put(post(19 - due, due, 0))?;
+    }
+    assert_eq!(rt; inbox.len(), 20);
+    assert_eq!(rt; inbox.take_due(1), Some(post(0, 19, 0)));
+    inbox.put(post(1, 0, 0))?;
+    assert_eq!(rt; inbox.take_due(1), Some(post(1, 0, 0)));
+    for due in 1..20 {
+        assert_eq!(rt; inbox.take_due(19), Some(post(due, 19 - due, 0)));
     }
     assert!(rt; inbox.is_empty());
     Ok(())

@@ -1,7 +1,9 @@
-//! Asks for one line, one after another, with the posts that come of them.
+//! Asks for one line, with the posts that come of them and the entry that they leave.
+
+mod rows;
+mod sequences;
 
 use super::*;
-use std::test::Fail;
 
 const DELAYS: Delays = Delays {
     snoop: 2,
@@ -44,9 +46,9 @@ fn sends(
     wanted: &[(u32, u64, PostKind)],
 ) -> bool {
     let id = Id {
-        cycle: 0,
+        cycle: 77,
         core: core % 8,
-        number: 0,
+        number: 3,
     };
     let grant = u64::from(grant);
     let mut out = PostBatch::new();
@@ -60,89 +62,67 @@ fn sends(
         return false;
     }
     for (post, (to, due, kind)) in out.posts().iter().zip(wanted) {
-        if post.to != *to || post.due != *due || post.kind != *kind || post.line != 256 {
+        if post.to != *to || post.due != *due || post.kind != *kind {
+            return false;
+        }
+        if post.id != id || post.line != 256 {
             return false;
         }
     }
     true
 }
 
-#[test]
-fn two_cores_store_to_one_line(rt: HostRuntime) -> Result<(), Fail> {
-    let mut entry = Entry::idle(words_of(0));
-    let rows = [
-        (0, Request::ReadOwn, 1, (0, 11, reply(true, 0))),
-        (1, Request::ReadOwn, 3, (1, 5, PostKind::Retry)),
-        (1, Request::ReadOwn, 11, (1, 13, PostKind::Retry)),
-        (1, Request::ReadOwn, 13, (0, 15, PostKind::SnoopOwn)),
-        (0, Request::Flush(Some(7)), 15, (1, 18, reply(true, 7))),
-    ];
-    for (core, request, grant, post) in rows {
-        assert!(rt;
-            sends(&mut entry, core, request, grant, &[post]),
-            "core {core} at {grant}"
-        );
-    }
-    let wanted = EntryView {
-        kind: EntryKind::Owned { core: 1 },
-        settled: 19,
-        words: words_of(7),
-    };
-    assert_eq!(rt; entry.view(), wanted);
-    Ok(())
+/// Says whether a request that finds this entry leaves that one, and these posts come of it.
+fn leaves(
+    entry: &Entry,
+    core: u32,
+    request: Request,
+    grant: u32,
+    wanted: &[(u32, u64, PostKind)],
+    after: EntryView,
+) -> bool {
+    let mut served = *entry;
+    sends(&mut served, core, request, grant, wanted) && served.view() == after
 }
 
-#[test]
-fn a_write_back_passes_a_snoop(rt: HostRuntime) -> Result<(), Fail> {
-    let mut entry = Entry::idle(words_of(0));
-    assert!(rt;
-        sends(
-            &mut entry,
-            0,
-            Request::ReadOwn,
-            1,
-            &[(0, 11, reply(true, 0))]
-        )
-    );
-    assert!(rt;
-        sends(
-            &mut entry,
-            1,
-            Request::Read,
-            21,
-            &[(0, 23, PostKind::SnoopShare)]
-        )
-    );
-    assert!(rt; sends(&mut entry, 0, Request::WriteBack(7), 23, &[]));
-    assert!(rt;
-        sends(
-            &mut entry,
-            0,
-            Request::Flush(None),
-            25,
-            &[(1, 28, reply(false, 7))]
-        )
-    );
-    assert!(rt;
-        sends(
-            &mut entry,
-            2,
-            Request::Read,
-            27,
-            &[(2, 37, reply(false, 7))]
-        )
-    );
-    let owned = [
-        (1, 42, PostKind::Invalidate),
-        (2, 42, PostKind::Invalidate),
-        (3, 50, reply(true, 7)),
-    ];
-    assert!(rt; sends(&mut entry, 3, Request::ReadOwn, 40, &owned));
-    let wanted = EntryView {
-        kind: EntryKind::Owned { core: 3 },
-        settled: 51,
-        words: words_of(7),
-    };
-    assert_eq!(rt; entry.view(), wanted);
-    Ok(())
+/// Whether the core is told to ask again, at this due, and the entry stays as it is.
+fn retries(entry: &Entry, core: u32, request: Request, grant: u32, due: u64) -> bool {
+    let posts = [(core, due, PostKind::Retry)];
+    leaves(entry, core, request, grant, &posts, entry.view())
+}
+
+/// Whether nothing comes of a request that is granted at cycle 50.
+fn passes(entry: &Entry, core: u32, request: Request) -> bool {
+    leaves(entry, core, request, 50, &[], entry.view())
+}
+
+/// A view of a line with this word at its front.
+fn view_of(kind: EntryKind, settled: u64, w0: u32) -> EntryView {
+    EntryView {
+        kind,
+        settled,
+        words: words_of(w0),
+    }
+}
+
+/// The entry after one more request, whatever comes of it.
+fn after(entry: &Entry, core: u32, request: Request, grant: u32) -> Entry {
+    let mut served = *entry;
+    sends(&mut served, core, request, grant, &[]);
+    served
+}
+
+/// A line that core 0 owns from cycle 10 on: its reply was granted at 0.
+fn owned() -> Entry {
+    after(&Entry::idle(words_of(5)), 0, Request::ReadOwn, 0)
+}
+
+/// The same line on its way from core 0 to core 1, since cycle 11.
+fn moving(request: Request) -> Entry {
+    after(&owned(), 1, request, 11)
+}
+
+/// The same line with cores 0 and 1, from cycle 16 on, after a flush with another word.
+fn shared() -> Entry {
+    after(&moving(Request::Read), 0, Request::Flush(Some(6)), 13)
 }
