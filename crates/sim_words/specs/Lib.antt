@@ -1,0 +1,10 @@
+pub mod Checks
+pub mod Commands
+pub mod Given
+pub mod Items
+pub mod Numerals
+pub mod Options
+pub mod Settings
+pub mod Steps
+pub mod Tables
+pub mod Values
