@@ -6,10 +6,15 @@ mod given;
 mod items;
 mod numerals;
 mod options;
+mod orders;
+mod pairs;
+mod reading;
 mod settings;
 mod steps;
 mod tables;
 mod values;
 
 pub use commands::Command;
+pub use orders::Order;
+pub use reading::{WordError, read_words};
 pub use values::{Format, Mode};
