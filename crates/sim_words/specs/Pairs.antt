@@ -20,8 +20,8 @@ pub record Pair : Type 0 where
 -- the pairs of words whose first stands at this place; a value that is missing is read as an empty word
 abbrev pub pairs_from : ℕ → List (List ℕ) → List Pair
 pairs_from place [] = []
-pairs_from place (option ∷ []) = record { place = place; option = option; value = []; } ∷ []
-pairs_from place (option ∷ value ∷ words) = record { place = place; option = option; value = value; } ∷ pairs_from (place + 2) words
+pairs_from place (option ∷ []) = record { place = place; option = option; value = [] } ∷ []
+pairs_from place (option ∷ value ∷ words) = record { place = place; option = option; value = value } ∷ pairs_from (place + 2) words
 
 -- the word begins with two `-`
 abbrev pub is_dashed : List ℕ → Bool
