@@ -18,3 +18,6 @@ pub use commands::Command;
 pub use orders::Order;
 pub use reading::{WordError, read_words};
 pub use values::{Format, Mode};
+
+#[cfg(test)]
+mod tests;

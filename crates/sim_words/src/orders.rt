@@ -5,7 +5,7 @@ use crate::values::{Format, Mode};
 use slack_base::{Config, StepList};
 
 /// What the command words ask for. What the command doesn't take has its default.
-#[derive(Debug, Drop)]
+#[derive(Debug, PartialEq, Eq, Drop)]
 pub struct Order {
     /// What is to be done.
     pub command: Command,
