@@ -1,0 +1,6 @@
+pub mod Digits
+pub mod Flags
+pub mod Pieces
+pub mod Places
+pub mod Rows
+pub mod SoFar

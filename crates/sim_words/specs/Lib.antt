@@ -1,0 +1,13 @@
+pub mod Checks
+pub mod Commands
+pub mod Contents
+pub mod Given
+pub mod Items
+pub mod Numerals
+pub mod Options
+pub mod Pairs
+pub mod Reading
+pub mod Settings
+pub mod Steps
+pub mod Tables
+pub mod Values

@@ -1,0 +1,100 @@
+//! Reading the command words.
+ghost use Rattle.std.specs.Prelude.{◌≡◌, ◌↔◌, None, Some, Ok, Err, IfOk, IsErrOf, MatchResult};
+ghost use Rattle.slack_base.specs.Bounds.{settled};
+ghost use Rattle.slack_base.specs.Numbers.{numbers_of};
+ghost use Rattle.slack_base.specs.declared.faults.WordFault.{WordFault};
+ghost use Rattle.sim_words.specs.declared.reading.WordError.TheVariants as errors;
+ghost use Rattle.sim_words.specs.Contents.{contents_of, contents_in};
+ghost use Rattle.sim_words.specs.Reading.{bound_fault, words_of};
+
+use crate::commands::{Command, command_of};
+use crate::orders::Order;
+use crate::pairs::settings_in;
+use crate::settings::Settings;
+use crate::steps::steps_of;
+use slack_base::{Arg, Config, ConfigFault, OutOfMemory, RawConfig, WordFault};
+use std::alloc::Global;
+use thiserror::Error;
+
+/// How many bytes of memory a generated program needs.
+const GENERATED_MEMORY: u32 = 131_072;
+
+/// Why command words were not read.
+#[derive(Clone, Copy, Debug, PartialEq, Eq, Error)]
+pub enum WordError {
+    #[error("the words have a fault")]
+    Fault(WordFault),
+    #[error("out of memory")]
+    OutOfMemory,
+}
+
+impl From<OutOfMemory> for WordError {
+    ghost from_gives = { λ _ e. e ≡ errors.OutOfMemory };
+
+    fn from(_error: OutOfMemory) -> WordError {
+        WordError::OutOfMemory
+    }
+}
+
+/// The order that the words give. The first is the command, and the others are pairs of an option and its
+/// value, each option once at most, in any order. Words with a fault are answered by their first fault, and
+/// never by want of memory. Places are counted from 0.
+pub fn read_words(alloc: Global, words: &[Arg]) -> Result<Order, WordError>
+    ensures order { IfOk result (λ order. words_of words.now ≡ Ok (contents_of order)) }
+    ensures fault { (fault : WordFault) → (IsErrOf result (WordError.Fault fault) ↔ (words_of words.now ≡ Err fault)) }
+{
+    let request = request_of(words).map_err(WordError::Fault)?;
+    let settings = request.settings;
+    let steps = steps_of(alloc, settings.steps)?;
+    Ok(Order {
+        command: request.command,
+        config: request.config,
+        mode: settings.mode,
+        format: settings.format,
+        notes: settings.notes,
+        seed: settings.seed,
+        steps,
+    })
+}
+
+/// Words without a fault.
+#[derive(Debug, Drop)]
+struct Request<'a> {
+    command: Command,
+    config: Config,
+    settings: Settings<'a>,
+}
+
+/// What the words say, or their first fault. It takes no memory.
+#[tactic(auto, unfolding(crate::specs::Reading::words_of))]
+fn request_of(words: &[Arg]) -> Result<Request<'_>, WordFault>
+    ensures { MatchResult result (λ request. words_of words.now ≡ Ok (contents_in request.command (numbers_of request.config) request.settings)) (λ fault. words_of words.now ≡ Err fault) }
+{
+    let Some(word) = words.first() else {
+        return Err(WordFault::Empty);
+    };
+    let command = command_of(word.bytes()).ok_or(WordFault::Command)?;
+    let settings = settings_in(command, words)?;
+    let config = config_for(command, settings.numbers)?;
+    Ok(Request {
+        command,
+        config,
+        settings,
+    })
+}
+
+/// The configuration of these numbers for a command, or the fault of the first bound that they break.
+#[tactic(auto, unfolding(crate::specs::Reading::bound_fault))]
+fn config_for(command: Command, numbers: RawConfig) -> Result<Config, WordFault>
+    ensures { MatchResult result (λ config. (bound_fault command numbers ≡ None) × (numbers_of config ≡ settled numbers)) (λ fault. bound_fault command numbers ≡ Some fault) }
+{
+    let config = Config::checked(numbers).map_err(WordFault::Bound)?;
+    match command {
+        Command::Gen if numbers.memory < GENERATED_MEMORY => {
+            Err(WordFault::Bound(ConfigFault::Memory {
+                given: numbers.memory,
+            }))
+        }
+        _ => Ok(config),
+    }
+}
