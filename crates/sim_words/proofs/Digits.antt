@@ -1,5 +1,5 @@
 -- Numbers and their digits.
-use Rattle.std.proofs.Common.{◌≡◌, ℕ, ◌+◌, ◌*◌, ◌^◌, ◌<◌, ◌≤◌, Bool, true, false, cond, List, length, take, drop, get_or, map, Option, Some, None, refl, sym, ap, ◌∙◌, subst, arith, ltb, leb, ◌&&◌, ◌++◌, inl, inr, below_more}
+use Rattle.std.proofs.Common.{◌≡◌, ℕ, ◌+◌, ◌*◌, ◌^◌, ◌<◌, ◌≤◌, Bool, true, false, cond, List, length, take, drop, get_or, map, Some, None, refl, sym, ap, ◌∙◌, subst, arith, ltb, leb, ◌&&◌, ◌++◌, inl, inr, below_more}
 use Rattle.std.specs.Char.{digit_value, is_digit}
 use Rattle.std.specs.Int.Digits.{number_from_digits, number_from_digits_after}
 use Rattle.std.specs.List.{list_all}

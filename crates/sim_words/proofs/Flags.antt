@@ -1,5 +1,5 @@
 -- The flags of the options that were given.
-use Rattle.std.proofs.Common.{◌≡◌, ℕ, ◌+◌, ◌<◌, ◌≤◌, Bool, true, false, List, [], ◌∷◌, length, get_or, filter, slice_index_or, slice_set, refl, ap, arith, zero, suc}
+use Rattle.std.proofs.Common.{◌≡◌, ℕ, ◌+◌, ◌<◌, ◌≤◌, Bool, true, false, List, [], ◌∷◌, length, slice_index_or, slice_set, refl, ap, arith, zero, suc}
 use Rattle.sim_words.specs.declared.options.OptionName.{OptionName}
 use Rattle.sim_words.specs.declared.options.OptionName.TheVariants.{Number, Mode, Format, Notes, Steps}
 use Rattle.sim_words.specs.declared.options.NumberOption.TheVariants.{Base, Memory, Cores, Sets, Ways, Buses, Snoop, MemoryDelay, Transfer, Occupancy, Slack, Interval, Limit, Quantum, Seed}

@@ -1,6 +1,5 @@
 -- The items of a value from a place on.
-use Rattle.std.proofs.Common.{◌≡◌, ℕ, ◌+◌, ◌<◌, ◌≤◌, Bool, true, false, cond, List, ◌∷◌, ◌++◌, length, drop, get_or, Option, Some, None, ap, sym, ◌∙◌, arith, flat_map, append_assoc}
-use Rattle.std.proofs.lemmas.Bool.Decides.{nat_tests}
+use Rattle.std.proofs.Common.{◌≡◌, ℕ, ◌+◌, ◌<◌, Bool, cond, List, ◌++◌, length, drop, get_or, Option, Some, ap, sym, ◌∙◌, flat_map, append_assoc}
 use Rattle.slack_base.specs.declared.steps.Step.{Step}
 use Rattle.sim_words.specs.declared.items.Item.{Item}
 use Rattle.sim_words.specs.Items.{item_of}

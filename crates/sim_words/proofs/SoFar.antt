@@ -1,5 +1,5 @@
 -- The pairs so far and those that are left.
-use Rattle.std.proofs.Common.{◌≡◌, ℕ, ◌+◌, ◌*◌, ◌<◌, ◌≤◌, Bool, true, false, not, List, [], ◌∷◌, ◌++◌, length, drop, get_or, slice_index_or, slice_set, fold, Option, Some, None, is_some, refl, ap, sym, ◌∙◌, arith, cond, add-zero}
+use Rattle.std.proofs.Common.{◌≡◌, ℕ, ◌+◌, ◌*◌, ◌<◌, ◌≤◌, Bool, true, false, not, List, [], ◌∷◌, ◌++◌, length, drop, get_or, slice_set, fold, Option, Some, None, is_some, refl, ap, sym, ◌∙◌, arith, cond, add-zero}
 use Rattle.std.specs.Option.{option_to_list}
 use Rattle.std.proofs.lemmas.List.{drop-drop, get_or-drop, length-drop, drop_all}
 use Rattle.slack_base.specs.declared.faults.WordFault.{WordFault}
@@ -9,7 +9,7 @@ use Rattle.sim_words.specs.declared.options.OptionName.{OptionName}
 use Rattle.sim_words.specs.Checks.{first_fault, or_else}
 use Rattle.sim_words.specs.Given.{is_given, flags_of, is_flagged}
 use Rattle.sim_words.specs.Options.{option_of, index_of}
-use Rattle.sim_words.specs.Pairs.{Pair, pairs_from, pairs_fault, pair_fault, word_checks, checks_for, is_again, is_dashed, with_pair, with_value_of}
+use Rattle.sim_words.specs.Pairs.{pairs_from, pairs_fault, pair_fault, word_checks, checks_for, is_again, is_dashed, with_pair, with_value_of}
 use Rattle.sim_words.specs.Settings.{Choices, defaults, with_value, value_checks}
 use Rattle.sim_words.proofs.Flags.{flag_is, flags_more, index_small, set_count, count_le, length_flags, count_more}
 

@@ -1,5 +1,5 @@
 -- The options that were given.
-use Rattle.std.specs.Prelude.{ℕ, Bool, false, List, ◌==◌, map, slice_index_or}
+use Rattle.std.specs.Prelude.{Bool, false, List, ◌==◌, map, slice_index_or}
 use Rattle.std.specs.List.{list_any, range_with_len}
 use Rattle.sim_words.specs.declared.options.OptionName.{OptionName}
 use Rattle.sim_words.specs.Options.{index_of}

@@ -1,5 +1,5 @@
 -- Reading the command words.
-use Rattle.std.specs.Prelude.{ℕ, Bool, List, [], ◌∷◌, Option, Some, None, Result, Ok, Err, nat_lt, option_map, if◌then◌else◌}
+use Rattle.std.specs.Prelude.{ℕ, List, [], ◌∷◌, Option, Some, None, Result, Err, nat_lt, option_map, if◌then◌else◌}
 use Rattle.slack_base.specs.declared.faults.WordFault.{WordFault}
 use Rattle.slack_base.specs.declared.faults.WordFault.TheVariants as fault
 use Rattle.slack_base.specs.declared.limits.ConfigFault.TheVariants as bound

@@ -1,5 +1,5 @@
 -- What the options say.
-use Rattle.std.specs.Prelude.{ℕ, ◌==◌, Bool, true, false, not, List, [], ◌∷◌, Option, is_some, is_none, unwrap_or}
+use Rattle.std.specs.Prelude.{ℕ, ◌==◌, Bool, true, false, not, List, [], ◌∷◌, is_some, is_none, unwrap_or}
 use Rattle.slack_base.specs.declared.faults.WordFault.{WordFault}
 use Rattle.slack_base.specs.declared.faults.WordFault.TheVariants as fault
 use Rattle.slack_base.specs.declared.limits.RawConfig.{RawConfig}

@@ -1,5 +1,5 @@
 //! Reading the command words.
-ghost use Rattle.std.specs.Prelude.{◌≡◌, ◌↔◌, None, Some, Ok, Err, IfOk, IsErrOf, MatchResult};
+ghost use Rattle.std.specs.Prelude.{◌≡◌, ◌≤◌, ◌↔◌, None, Some, Ok, Err, IfOk, IsErrOf, MatchResult};
 ghost use Rattle.slack_base.specs.Bounds.{settled};
 ghost use Rattle.slack_base.specs.Numbers.{numbers_of};
 ghost use Rattle.slack_base.specs.declared.faults.WordFault.{WordFault};
@@ -42,6 +42,7 @@ impl From<OutOfMemory> for WordError {
 pub fn read_words(alloc: Global, words: &[Arg]) -> Result<Order, WordError>
     ensures order { IfOk result (λ order. words_of words.now ≡ Ok (contents_of order)) }
     ensures fault { (fault : WordFault) → (IsErrOf result (WordError.Fault fault) ↔ (words_of words.now ≡ Err fault)) }
+    ensures room { IfOk result (λ order. order.command ≡ Command.Gen → 131072 ≤ order.config.memory) }
 {
     let request = request_of(words).map_err(WordError::Fault)?;
     let settings = request.settings;
@@ -68,7 +69,8 @@ struct Request<'a> {
 /// What the words say, or their first fault. It takes no memory.
 #[tactic(auto, unfolding(crate::specs::Reading::words_of))]
 fn request_of(words: &[Arg]) -> Result<Request<'_>, WordFault>
-    ensures { MatchResult result (λ request. words_of words.now ≡ Ok (contents_in request.command (numbers_of request.config) request.settings)) (λ fault. words_of words.now ≡ Err fault) }
+    ensures contents { MatchResult result (λ request. words_of words.now ≡ Ok (contents_in request.command (numbers_of request.config) request.settings)) (λ fault. words_of words.now ≡ Err fault) }
+    ensures room { IfOk result (λ request. request.command ≡ Command.Gen → 131072 ≤ request.config.memory) }
 {
     let Some(word) = words.first() else {
         return Err(WordFault::Empty);
@@ -86,7 +88,8 @@ fn request_of(words: &[Arg]) -> Result<Request<'_>, WordFault>
 /// The configuration of these numbers for a command, or the fault of the first bound that they break.
 #[tactic(auto, unfolding(crate::specs::Reading::bound_fault))]
 fn config_for(command: Command, numbers: RawConfig) -> Result<Config, WordFault>
-    ensures { MatchResult result (λ config. (bound_fault command numbers ≡ None) × (numbers_of config ≡ settled numbers)) (λ fault. bound_fault command numbers ≡ Some fault) }
+    ensures numbers { MatchResult result (λ config. (bound_fault command numbers ≡ None) × (numbers_of config ≡ settled numbers)) (λ fault. bound_fault command numbers ≡ Some fault) }
+    ensures room { IfOk result (λ config. command ≡ Command.Gen → 131072 ≤ config.memory) }
 {
     let config = Config::checked(numbers).map_err(WordFault::Bound)?;
     match command {

@@ -1,6 +1,6 @@
 use Rattle.std.proofs.Common.{sym, arith}
 use Rattle.std.proofs.lemmas.Bool.Decides.{nat_tests}
-use Rattle.sim_words.proofs.Digits.{wrong_length, no_more, one_more, all_read}
+use Rattle.sim_words.proofs.Digits.{no_more, one_more, all_read}
 use Rattle.sim_words.proofs.numerals.numeral_of.Goals as goal
 
 pub returns-in_default-clause-number : goal.returns-in_default-clause-number

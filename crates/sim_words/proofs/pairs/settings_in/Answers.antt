@@ -1,7 +1,7 @@
-use Rattle.std.proofs.Common.{◌≡◌, ◌+◌, ◌≤◌, Some, None, [], ◌∷◌, drop, get_or, sym, ◌∙◌, arith, rules}
+use Rattle.std.proofs.Common.{◌≡◌, Some, [], ◌∷◌, drop, get_or, ◌∙◌, arith, rules}
 use Rattle.std.proofs.lemmas.List.{get_or_default}
 use Rattle.sim_words.specs.Pairs.{pairs_from, pairs_fault}
-use Rattle.sim_words.proofs.SoFar.{IsSoFar, start, place_small, word_fault, value_fault, pair_read, all_read}
+use Rattle.sim_words.proofs.SoFar.{start, place_small, word_fault, value_fault, pair_read, all_read}
 use Rattle.sim_words.proofs.pairs.settings_in.Goals as goal
 
 pub loop-place-init : goal.loop-place-init

@@ -1,4 +1,4 @@
-use Rattle.std.proofs.Common.{◌≡◌, ◌+◌, ◌≤◌, true, false, Some, None, sym, ap, ◌∙◌, length, drop, arith, rules, tests, refl}
+use Rattle.std.proofs.Common.{◌≡◌, ◌+◌, true, false, Some, None, sym, ap, ◌∙◌, length, drop, arith, rules, tests, refl}
 use Rattle.std.proofs.lemmas.Bool.Decides.{nat_tests}
 use Rattle.std.proofs.lemmas.Iterator.Consumers.{YieldsList-turn, YieldsList-end}
 use Rattle.std.proofs.lemmas.Iterator.Splits.{YieldsList-from_slice_split}
