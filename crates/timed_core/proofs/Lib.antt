@@ -1,1 +1,7 @@
+pub mod AccessSteps
 pub mod Due
+pub mod HeldBelow
+pub mod InstructionSteps
+pub mod Lawful
+pub mod PostSteps
+pub mod Steps

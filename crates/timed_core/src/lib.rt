@@ -5,6 +5,7 @@ pub mod accesses;
 pub mod code;
 pub mod effects;
 mod harts;
+pub mod laws;
 pub mod timed_cores;
 
 pub use accesses::Access;
