@@ -1,7 +1,15 @@
 //! A core alone, with posts made by hand. Memory is of 8192 bytes from 4096 on, so line 256 is at 8192; the cache
-//! holds one line. The words are of the RISC-V Unprivileged ISA (20191213), assembled by hand.
+//! holds one line, where nothing else is said. The words are of the RISC-V Unprivileged ISA (20191213), assembled by
+//! hand.
 ghost use Rattle.std.specs.Prelude.{◌≡◌, IfOk};
 ghost use Rattle.slack_base.specs.Images.{Fits};
+
+mod addresses;
+mod instructions;
+mod parts;
+mod posts;
+mod prepared;
+mod victims;
 
 use super::*;
 use mesi_cache::Held;
@@ -41,7 +49,7 @@ const WORDS: Words = Words {
     w3: 44,
 };
 
-fn config() -> Result<Config, ConfigFault>
+fn config(ways: u32) -> Result<Config, ConfigFault>
     ensures { IfOk result (λ c. (c.cores ≡ 2) × (c.base ≡ 4096) × (c.memory ≡ 8192)) }
 {
     Config::checked(RawConfig {
@@ -49,7 +57,7 @@ fn config() -> Result<Config, ConfigFault>
         base: 4096,
         memory: 8192,
         sets: 1,
-        ways: 1,
+        ways,
         buses: 1,
         snoop: 2,
         memory_delay: 10,
@@ -96,7 +104,19 @@ fn run(
     posts: &[Post],
     cycles: u32,
 ) -> Result<Seen, Fail> {
-    let config = config()?;
+    run_in(rt, alloc, 1, words, posts, cycles)
+}
+
+/// The same with a cache of one set of so many ways.
+fn run_in(
+    rt: &impl Abort,
+    alloc: Global,
+    ways: u32,
+    words: &[u32],
+    posts: &[Post],
+    cycles: u32,
+) -> Result<Seen, Fail> {
+    let config = config(ways)?;
     let code = Code::of(alloc, &image_of(rt, alloc, words)?, &config)?;
     let mut core = TimedCore::new(alloc, 0, &config, 4096)?;
     for post in posts {
@@ -141,6 +161,11 @@ fn reply(due: u64, line: u32) -> Post {
             words: WORDS,
         },
     )
+}
+
+/// The last ask that was sent.
+fn last_of(seen: &Seen) -> Option<Ask> {
+    seen.asks.as_slice().last().copied()
 }
 
 #[test]

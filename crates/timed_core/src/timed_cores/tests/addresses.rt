@@ -1,0 +1,157 @@
+//! Accesses at the first and the last bytes of memory, which are 4096 and 12287, and beside them.
+use super::*;
+
+/// lui x8, 1
+const LUI_4096: u32 = 0x0000_1437;
+/// lui x8, 3
+const LUI_12288: u32 = 0x0000_3437;
+/// addi x8, x8, -4
+const LESS_4: u32 = 0xffc4_0413;
+/// addi x8, x8, -2
+const LESS_2: u32 = 0xffe4_0413;
+/// addi x8, x8, -1
+const LESS_1: u32 = 0xfff4_0413;
+/// addi x8, x8, 0
+const SAME: u32 = 0x0004_0413;
+/// addi x8, x8, 1
+const MORE_1: u32 = 0x0014_0413;
+/// addi x8, x8, 2
+const MORE_2: u32 = 0x0024_0413;
+/// lb x6, 0(x8)
+const LB: u32 = 0x0004_0303;
+/// lbu x6, 0(x8)
+const LBU: u32 = 0x0004_4303;
+/// lh x6, 0(x8)
+const LH: u32 = 0x0004_1303;
+/// lhu x6, 0(x8)
+const LHU: u32 = 0x0004_5303;
+/// lw x6, 0(x8)
+const LW: u32 = 0x0004_2303;
+/// sb x9, 0(x8)
+const SB: u32 = 0x0094_0023;
+/// sh x9, 0(x8)
+const SH: u32 = 0x0094_1023;
+/// sw x9, 0(x8)
+const SW: u32 = 0x0094_2023;
+/// lr.w x6, (x8)
+const LR: u32 = 0x1004_232f;
+/// amoadd.w x6, x8, (x8)
+const AMOADD: u32 = 0x0084_232f;
+
+/// What an access that finds no line in the cache does.
+#[derive(Clone, Copy, Debug, PartialEq, Eq)]
+enum Outcome {
+    /// It traps.
+    Traps(Trap),
+    /// It asks for the line of this number.
+    Asks(u32),
+}
+
+/// The base of x8, what is added to it, and what the access does at that address.
+type Row = (u32, u32, Outcome);
+
+fn outside(address: u32) -> Outcome {
+    Outcome::Traps(Trap::Outside { address })
+}
+
+fn misaligned(address: u32) -> Outcome {
+    Outcome::Traps(Trap::Misaligned { address })
+}
+
+/// The access is executed in cycle 2.
+fn check(rt: &impl Abort, alloc: Global, access: u32, owns: bool, row: Row) -> Result<(), Fail> {
+    let (base, more, outcome) = row;
+    let seen = run(rt, alloc, &[base, more, access], &[], 3)?;
+    match outcome {
+        Outcome::Traps(trap) => {
+            assert_eq!(rt; seen.core.end(), CoreEnd::Trapped { at: 2, trap });
+            assert_eq!(rt; last_of(&seen), None);
+        }
+        Outcome::Asks(line) => {
+            let id = id(2, 0);
+            let ask = if owns {
+                Ask::ReadOwn { id, line }
+            } else {
+                Ask::Read { id, line }
+            };
+            assert_eq!(rt; seen.core.end(), CoreEnd::Running);
+            assert_eq!(rt; last_of(&seen), Some(ask));
+        }
+    }
+    Ok(())
+}
+
+#[test]
+fn bytes_at_the_ends_of_memory(rt: HostRuntime) -> Result<(), Fail> {
+    let rows = [
+        (LUI_4096, LESS_1, outside(4095)),
+        (LUI_4096, SAME, Outcome::Asks(0)),
+        (LUI_12288, LESS_1, Outcome::Asks(511)),
+        (LUI_12288, SAME, outside(12288)),
+    ];
+    for row in rows {
+        for (access, owns) in [(LB, false), (LBU, false), (SB, true)] {
+            check(&rt, rt.alloc(), access, owns, row)?;
+        }
+    }
+    Ok(())
+}
+
+#[test]
+fn halves_at_the_ends_of_memory(rt: HostRuntime) -> Result<(), Fail> {
+    let rows = [
+        (LUI_4096, LESS_2, outside(4094)),
+        (LUI_4096, LESS_1, misaligned(4095)),
+        (LUI_4096, SAME, Outcome::Asks(0)),
+        (LUI_4096, MORE_1, misaligned(4097)),
+        (LUI_12288, LESS_2, Outcome::Asks(511)),
+        (LUI_12288, LESS_1, misaligned(12287)),
+        (LUI_12288, SAME, outside(12288)),
+    ];
+    for row in rows {
+        for (access, owns) in [(LH, false), (LHU, false), (SH, true)] {
+            check(&rt, rt.alloc(), access, owns, row)?;
+        }
+    }
+    Ok(())
+}
+
+#[test]
+fn words_at_the_ends_of_memory(rt: HostRuntime) -> Result<(), Fail> {
+    let rows = [
+        (LUI_4096, LESS_4, outside(4092)),
+        (LUI_4096, LESS_1, misaligned(4095)),
+        (LUI_4096, SAME, Outcome::Asks(0)),
+        (LUI_4096, MORE_2, misaligned(4098)),
+        (LUI_12288, LESS_4, Outcome::Asks(511)),
+        (LUI_12288, LESS_2, misaligned(12286)),
+        (LUI_12288, SAME, outside(12288)),
+    ];
+    for row in rows {
+        for (access, owns) in [(LW, false), (LR, false), (SW, true), (AMOADD, true)] {
+            check(&rt, rt.alloc(), access, owns, row)?;
+        }
+    }
+    Ok(())
+}
+
+/// An SC that isn't reserved traps too, where its address is wrong.
+#[test]
+fn an_sc_at_the_ends_of_memory(rt: HostRuntime) -> Result<(), Fail> {
+    let wrong = [
+        (LUI_4096, LESS_4, outside(4092)),
+        (LUI_4096, LESS_1, misaligned(4095)),
+        (LUI_12288, LESS_2, misaligned(12286)),
+        (LUI_12288, SAME, outside(12288)),
+    ];
+    for row in wrong {
+        check(&rt, rt.alloc(), SC_X6, true, row)?;
+    }
+    for (base, more) in [(LUI_4096, SAME), (LUI_12288, LESS_4)] {
+        let seen = run(&rt, rt.alloc(), &[base, more, SC_X6], &[], 3)?;
+        assert_eq!(rt; seen.core.reg(6), 1);
+        assert_eq!(rt; seen.core.counts().retired, 3);
+        assert_eq!(rt; last_of(&seen), None);
+    }
+    Ok(())
+}
