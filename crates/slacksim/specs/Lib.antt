@@ -1,2 +1,7 @@
-pub mod Orders
 pub mod Answers
+pub mod Ends
+pub mod Inputs
+pub mod Orders
+pub mod Outputs
+pub mod Texts
+pub mod Writing

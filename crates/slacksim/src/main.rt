@@ -3,8 +3,10 @@
 
 mod answers;
 mod faults;
-mod loads;
+mod inputs;
 mod orders;
+mod outputs;
+mod runs;
 mod simulation;
 
 use faults::fault_text;

@@ -1,30 +1,26 @@
 //! The top call.
-ghost use Rattle.std.specs.Prelude.{◌≡◌, ◌≢◌, ◌+◌, ◌<◌, ◌≤◌, ◌^◌, ◌==◌, ◌↔◌, ◌⊎◌, ℕ, [], Ok, Err, Some, None, length, IfOk, IfSome, IsSome, IsNone, IsErr, IsOk, IsOkAnd, MatchOption};
+ghost use Rattle.std.specs.Prelude.{◌≡◌, ◌+◌, ◌<◌, ◌≤◌, ◌^◌, ◌↔◌, ◌⊎◌, ℕ, List, [], Ok, Err, Some, None, length, IfOk, IfSome, IsErr, IsOkAnd};
 ghost use Rattle.io_edge.specs.Counting.{Rose};
-ghost use Rattle.io_edge.specs.Streams.{with_after};
-ghost use Rattle.io_edge.specs.Whole.{AppendsFront};
-ghost use Rattle.slack_base.specs.Images.{Fits};
-ghost use Rattle.slack_base.specs.Numbers.{numbers_of};
 ghost use Rattle.slack_base.specs.declared.faults.WordFault.{WordFault};
-ghost use Rattle.slack_base.specs.declared.faults.ImageFault.{ImageFault};
-ghost use Rattle.slacksim.specs.Answers.{EndsRun, HasEnd, IsWhole, IsLockstepEnd, RefusesImage, all_zero_of, answer_of, image_told, is_zero_exit, most_bytes, running_of, status_of};
+ghost use Rattle.slacksim.specs.declared.answers.Answer.TheVariants as answers;
+ghost use Rattle.slacksim.specs.Answers.{HasOutput, IsWhole, answer_at, status_of};
+ghost use Rattle.slacksim.specs.Inputs.{IsRefusal, Tells, most_bytes, refusal_of};
 ghost use Rattle.slacksim.specs.Orders.{order_of};
-ghost use Rattle.stat_report.specs.Report.{report_of};
+ghost use Rattle.slacksim.specs.Writing.{IsWritten, Wrote};
 
 use crate::answers::{Answer, Finish};
-use crate::loads::{LoadError, MOST_BYTES, load};
-use crate::orders::read_words;
+use crate::inputs::read_input;
+use crate::orders::read_order;
+use crate::outputs::{Output, output_of};
 use io_edge::{Gate, Sink, Source, write_all};
-use lockstep_model::{Machine, RvTarget, run, start};
-use slack_base::{Arg, Config, CoreEnd, Image, NoteList, OutOfMemory};
-use stat_report::report_text;
+use sim_words::{Command, WordError};
+use slack_base::{Arg, NoteList};
 use std::alloc::Global;
 use std::thread::Threads;
-use timed_core::TimedCore;
 
-/// Runs the command that the words give, over the bytes of the source, and writes its text to the sink.
+/// Carries out the command that the words give over the bytes of the source, and writes its text to the sink.
 ///
-/// The words are `run`, or `run --cores D` with one digit from 1 to 8. The image runs cycle by cycle.
+/// `run` runs an image and `gen` a generated program, cycle by cycle; `asm` assembles a text, and `list` lists an image.
 pub fn simulate<R: Threads + Sync, S: Source, W: Sink, G: Gate + Sync>(
     _rt: &R,
     alloc: Global,
@@ -33,116 +29,52 @@ pub fn simulate<R: Threads + Sync, S: Source, W: Sink, G: Gate + Sync>(
     sink: &mut W,
     _gate: &G,
 ) -> Finish
-    // The words are refused exactly where they have a fault, and then nothing is read or written.
-    ensures bad_words { (fault : WordFault) → (result.answer ≡ Answer.BadWords fault ↔ order_of words.now ≡ Err fault) }
+    // Words with a fault are refused, and nothing else is refused so; then nothing is read or written.
+    ensures bad_words { (fault : WordFault) → result.answer ≡ Answer.BadWords fault → order_of words.now ≡ Err fault }
+    ensures refuses_words { (fault : WordFault) → order_of words.now ≡ Err fault → (result.answer ≡ Answer.BadWords fault) ⊎ (result.answer ≡ Answer.OutOfMemory) }
     ensures untouched { IsErr (order_of words.now) → (source.new ≡ source.old) × (sink.new ≡ sink.old) }
 
-    // Reading: a failure of the source, more bytes than an input may have, and an image with a fault.
+    // Reading: a failure of the source, more bytes than an input may have, and an input with a fault. `gen` reads nothing.
     ensures read_fault { result.answer ≡ Answer.ReadFault → Rose (S.faults source.old) (S.faults source.new) }
     ensures too_long { S.taken source.old < 2 ^ 63 → (result.answer ≡ Answer.TooLong (most_bytes + 1) ↔ S.taken source.new ≡ S.taken source.old + (most_bytes + 1)) }
     ensures too_long_taken { (taken : ℕ) → result.answer ≡ Answer.TooLong taken → taken ≡ most_bytes + 1 }
     ensures no_more { S.taken source.old < 2 ^ 63 → S.taken source.new ≤ S.taken source.old + (most_bytes + 1) }
-    ensures bad_image { (fault : ImageFault) → result.answer ≡ Answer.BadImage fault → IsOkAnd (order_of words.now) (λ config. RefusesImage config (S.left source.old) (S.left source.new) fault) }
+    ensures bad_input { IsRefusal result.answer → IsOkAnd (order_of words.now) (λ order. IfSome (S.left source.old) (λ told. (refusal_of order told ≡ Some result.answer) × (S.left source.new ≡ Some []))) }
+    ensures generated { IsOkAnd (order_of words.now) (λ order. order.command ≡ Command.Gen) → source.new ≡ source.old }
 
-    // The machine at the end is that of cycle-by-cycle simulation, of all that the source told.
-    ensures end { IfSome result.end (λ m. IsOkAnd (order_of words.now) (λ config. EndsRun config (S.left source.old) m)) }
-    ensures has_end { IsSome result.end ↔ HasEnd result.answer }
-    ensures read { IsSome result.end → IfSome (S.left source.old) (λ told. S.left source.new ≡ Some []) }
-
-    // Writing: the whole report, or a front of it where the sink failed.
-    ensures answer { IfSome result.end (λ m. (result.answer ≡ Answer.WriteFault) ⊎ (result.answer ≡ answer_of m)) }
-    ensures whole { IfSome result.end (λ m. IsOkAnd (order_of words.now) (λ config. IsWhole result.answer → W.written sink.new ≡ with_after (W.written sink.old) (report_of m))) }
-    ensures front { IfSome result.end (λ m. IsOkAnd (order_of words.now) (λ config. result.answer ≡ Answer.WriteFault → AppendsFront (W.written sink.old) (W.written sink.new) (report_of m))) }
+    // The text that was written, or a front of it, is what the command makes of all that the source told; and so is the
+    // machine at the end.
+    ensures output { HasOutput result.answer → IsOkAnd (order_of words.now) (λ order. Wrote order result.answer result.end (S.left source.old) (S.left source.new) (W.written sink.old) (W.written sink.new)) }
+    ensures answer { HasOutput result.answer → (result.answer ≡ Answer.WriteFault) ⊎ (result.answer ≡ answer_at result.end) }
     ensures write_fault { result.answer ≡ Answer.WriteFault → Rose (W.faults sink.old) (W.faults sink.new) }
-    ensures nothing_written { IsNone result.end → sink.new ≡ sink.old }
+    ensures nothing_written { ¬ HasOutput result.answer → (sink.new ≡ sink.old) × (result.end ≡ None) }
 
     // The status goes with the answer, and cycle by cycle there is nothing to note.
     ensures status { result.status ≡ status_of result.answer }
     ensures notes { (result.notes ≡ []) × (result.drift_ticks ≡ 0) × (result.replay_ticks ≡ 0) }
 
-    // Where neither stream fails and the input isn't too long, the image alone decides, but for want of memory.
-    ensures accepts { IfOk (order_of words.now) (λ config. IfSome (S.left source.old) (λ told. S.taken source.old < 2 ^ 63 → length told ≤ most_bytes → IsOk (image_told config told)
-        → ¬ Rose (S.faults source.old) (S.faults source.new) → ¬ Rose (W.faults sink.old) (W.faults sink.new) → IsWhole result.answer ⊎ (result.answer ≡ Answer.OutOfMemory))) }
-    ensures refuses { IfOk (order_of words.now) (λ config. IfSome (S.left source.old) (λ told. (fault : ImageFault) → S.taken source.old < 2 ^ 63 → length told ≤ most_bytes → image_told config told ≡ Err fault
-        → ¬ Rose (S.faults source.old) (S.faults source.new) → (result.answer ≡ Answer.BadImage fault) ⊎ (result.answer ≡ Answer.OutOfMemory))) }
+    // Where neither stream fails and the input isn't too long, the input alone decides, but for want of memory.
+    ensures accepts { IfOk (order_of words.now) (λ order. (input : List ℕ) → Tells order.command (S.left source.old) input → S.taken source.old < 2 ^ 63 → length input ≤ most_bytes → refusal_of order input ≡ None
+        → ¬ Rose (S.faults source.old) (S.faults source.new) → ¬ Rose (W.faults sink.old) (W.faults sink.new) → IsWhole result.answer ⊎ (result.answer ≡ Answer.OutOfMemory)) }
+    ensures refuses { IfOk (order_of words.now) (λ order. (input : List ℕ) (refusal : answers.the_data) → Tells order.command (S.left source.old) input → S.taken source.old < 2 ^ 63 → length input ≤ most_bytes → refusal_of order input ≡ Some refusal
+        → ¬ Rose (S.faults source.old) (S.faults source.new) → (result.answer ≡ refusal) ⊎ (result.answer ≡ Answer.OutOfMemory)) }
 {
-    let config = match read_words(words) {
-        Ok(config) => config,
-        Err(fault) => return refused(alloc, Answer::BadWords(fault)),
+    let order = match read_order(alloc, words) {
+        Ok(order) => order,
+        Err(WordError::Fault(fault)) => return refused(alloc, Answer::BadWords(fault)),
+        Err(WordError::OutOfMemory) => return refused(alloc, Answer::OutOfMemory),
     };
-    match load(alloc, &config, source) {
-        Ok(image) => run_and_write(alloc, config, &image, sink),
-        Err(LoadError::ReadFault) => refused(alloc, Answer::ReadFault),
-        Err(LoadError::TooLong) => refused(
-            alloc,
-            Answer::TooLong {
-                taken: MOST_BYTES + 1,
-            },
-        ),
-        Err(LoadError::BadImage(fault)) => refused(alloc, Answer::BadImage(fault)),
-        Err(LoadError::OutOfMemory) => refused(alloc, Answer::OutOfMemory),
+    let input = match read_input(alloc, order.command, source) {
+        Ok(input) => input,
+        Err(answer) => return refused(alloc, answer),
+    };
+    match output_of(alloc, &order, input.as_slice()) {
+        Ok(output) => write_output(alloc, output, sink),
+        Err(answer) => refused(alloc, answer),
     }
 }
 
-/// The machine of an image at the checkpoint where its run stops.
-pub(crate) fn run_image(
-    alloc: Global,
-    config: Config,
-    image: &Image,
-) -> Result<Machine, OutOfMemory>
-    requires { Fits config.base config.memory image.now }
-    ensures end { IfOk result (IsLockstepEnd (numbers_of config) image.now) }
-    ensures cores { IfOk result (λ machine. length machine.cores ≤ 8) }
-{
-    let interval = u64::from(config.interval);
-    let limit = u64::from(config.limit);
-    let target = RvTarget::make(alloc, config, image)?;
-    let mut machine = start(alloc, &target, image)?;
-    run(alloc, &target, &mut machine, interval, limit)?;
-    Ok(machine)
-}
-
-/// What is answered of a machine whose whole text is written.
-fn final_answer(machine: &Machine) -> Answer
-    requires { length machine.now.cores ≤ 8 }
-    ensures { result ≡ answer_of machine.now }
-{
-    let cores = machine.cores.as_slice();
-    let running = running(cores);
-    if running == 0 {
-        Answer::Done {
-            all_zero: all_zero(cores),
-        }
-    } else {
-        Answer::Limit {
-            cycle: machine.clock,
-            running,
-        }
-    }
-}
-
-/// How many cores are running.
-fn running(cores: &[TimedCore]) -> u32
-    requires { length cores.now ≤ 8 }
-    ensures { result ≡ running_of cores.now }
-{
-    cores.iter().filter(|core| core.is_running()).count() as u32
-}
-
-/// Whether all cores exited with 0.
-fn all_zero(cores: &[TimedCore]) -> bool
-    ensures { result ≡ all_zero_of cores.now }
-{
-    cores.iter().all(|core| is_zero_exit(core.end()))
-}
-
-fn is_zero_exit(ended: CoreEnd) -> bool
-    ensures { result ≡ is_zero_exit ended }
-{
-    matches!(ended, CoreEnd::Exit { code: 0, .. })
-}
-
-/// Nothing was run.
+/// No text was written.
 fn refused(alloc: Global, answer: Answer) -> Finish
     ensures answer { result.answer ≡ answer }
     ensures status { result.status ≡ status_of answer }
@@ -159,44 +91,26 @@ fn refused(alloc: Global, answer: Answer) -> Finish
     }
 }
 
-/// A run came to its end.
-fn ended(alloc: Global, answer: Answer, machine: Machine) -> Finish
-    ensures answer { result.answer ≡ answer }
-    ensures status { result.status ≡ status_of answer }
-    ensures end { result.end ≡ Some machine }
+/// Writes the text of a command, which was made whole before.
+fn write_output<W: Sink>(alloc: Global, output: Output, sink: &mut W) -> Finish
+    requires { IsWhole output.answer }
+    ensures written { IsWritten result.answer (W.written sink.old) (W.written sink.new) output.text }
+    ensures answer { (result.answer ≡ Answer.WriteFault) ⊎ (result.answer ≡ output.answer) }
+    ensures end { result.end ≡ output.end }
+    ensures write_fault { result.answer ≡ Answer.WriteFault → Rose (W.faults sink.old) (W.faults sink.new) }
+    ensures status { result.status ≡ status_of result.answer }
     ensures notes { (result.notes ≡ []) × (result.drift_ticks ≡ 0) × (result.replay_ticks ≡ 0) }
 {
+    let answer = match write_all(sink, output.text.as_slice()) {
+        Ok(()) => output.answer,
+        Err(_) => Answer::WriteFault,
+    };
     Finish {
         status: answer.status(),
         answer,
-        end: Some(machine),
+        end: output.end,
         notes: NoteList::new(alloc),
         drift_ticks: 0,
         replay_ticks: 0,
     }
-}
-
-/// Runs an image, and writes the text of the run. The text is made whole before any of it is written.
-fn run_and_write<W: Sink>(alloc: Global, config: Config, image: &Image, sink: &mut W) -> Finish
-    requires { Fits config.base config.memory image.now }
-    ensures answer { MatchOption result.end (result.answer ≡ Answer.OutOfMemory) (λ m. (result.answer ≡ Answer.WriteFault) ⊎ (result.answer ≡ answer_of m)) }
-    ensures end { IfSome result.end (IsLockstepEnd (numbers_of config) image.now) }
-    ensures whole { IfSome result.end (λ m. IsWhole result.answer → W.written sink.new ≡ with_after (W.written sink.old) (report_of m)) }
-    ensures front { IfSome result.end (λ m. result.answer ≡ Answer.WriteFault → AppendsFront (W.written sink.old) (W.written sink.new) (report_of m)) }
-    ensures write_fault { result.answer ≡ Answer.WriteFault → Rose (W.faults sink.old) (W.faults sink.new) }
-    ensures nothing { IsNone result.end → sink.new ≡ sink.old }
-    ensures status { result.status ≡ status_of result.answer }
-    ensures notes { (result.notes ≡ []) × (result.drift_ticks ≡ 0) × (result.replay_ticks ≡ 0) }
-{
-    let Ok(machine) = run_image(alloc, config, image) else {
-        return refused(alloc, Answer::OutOfMemory);
-    };
-    let Ok(text) = report_text(alloc, &machine) else {
-        return refused(alloc, Answer::OutOfMemory);
-    };
-    let answer = match write_all(sink, text.as_slice()) {
-        Ok(()) => final_answer(&machine),
-        Err(_) => Answer::WriteFault,
-    };
-    ended(alloc, answer, machine)
 }

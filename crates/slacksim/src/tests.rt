@@ -14,6 +14,7 @@ mod failures;
 mod machines;
 mod programs;
 mod sharing;
+mod texts;
 mod words;
 
 /// An SLK1 file of these words from address 0 on, where it is entered.

@@ -1,6 +1,6 @@
 //! Machines with caches and buses, with the reports that the rules give.
 use super::flat;
-use crate::simulation::run_image;
+use crate::runs::run_image;
 use image_load::read_image;
 use slack_base::{ByteList, Config, RawConfig};
 use stat_report::report_text;
@@ -43,7 +43,7 @@ fn report<R: Abort + AllocGlobal>(rt: &R, raw: RawConfig, words: &[u32]) -> Resu
     let config = Config::checked(raw).expect(rt, "a configuration within its bounds");
     let bytes = flat(alloc, words)?;
     let image = read_image(alloc, bytes.as_slice(), &config).expect(rt, "an image");
-    let machine = run_image(alloc, config, &image)?;
+    let machine = run_image(alloc, &config, &image)?;
     Ok(report_text(alloc, &machine)?)
 }
 

@@ -1,0 +1,18 @@
+use Rattle.std.proofs.Common.{◌≡◌, ◌∙◌, ap, refl, length}
+use Rattle.slack_base.specs.declared.images.Image.{Image}
+use Rattle.image_load.specs.Flat.{flat_file}
+use Rattle.slacksim.proofs.outputs.asm_output.Goals as goal
+
+pub returns-clause-output : goal.returns-clause-output
+returns-clause-output c =
+    let a = c.in_ok-image.ensures.image in
+    let base = c.args.order.now.config.base in
+    record {
+      bytes = a.bytes;
+      no_end = c.written.ensures.end;
+      assembly = record { codes = a.codes; bytes = a.bytes; program = a.program; words = a.words; whole = refl };
+      whole =
+          c.written.ensures.text
+          ∙ c.in_ok-text.ensures.file (record { address = base; bytes = a.bytes; size = length a.bytes }) (ap (λ (i : Image). i.segments) a.whole)
+          ∙ ap (λ (i : Image). flat_file base i.entry a.bytes) a.whole;
+    }

@@ -1,0 +1,218 @@
+//! What a command makes of its input.
+ghost use Rattle.std.specs.Prelude.{◌≡◌, ◌<◌, ◌≤◌, ◌^◌, ◌⊎◌, Ok, Some, None, length, true, IfOk, IfErr};
+ghost use Rattle.slack_base.specs.Images.{Fits};
+ghost use Rattle.slack_base.specs.Numbers.{numbers_of};
+ghost use Rattle.rv_asm.specs.Programs.{IsAssembly, program_of};
+ghost use Rattle.sim_words.specs.Contents.{contents_of};
+ghost use Rattle.stat_report.specs.Listing.{IsListing};
+ghost use Rattle.slacksim.specs.Answers.{IsWhole, answer_at, answer_of, all_zero_of, is_zero_exit, running_of};
+ghost use Rattle.slacksim.specs.Inputs.{image_told, image_refusal, text_refusal, refusal_by};
+ghost use Rattle.slacksim.specs.Outputs.{IsOutputBy, IsRunOutput, IsGenOutput, IsAsmOutput, IsListOutput};
+
+use crate::answers::Answer;
+use crate::runs::{run_image, text_of_gen, text_of_run};
+use image_load::{ImageError, flat_bytes, read_image};
+use lockstep_model::Machine;
+use rv_asm::{AsmError, assemble};
+use sim_words::{Command, Order};
+use slack_base::{ByteList, Config, CoreEnd, Image, OutOfMemory};
+use stat_report::listing;
+use std::alloc::Global;
+use timed_core::TimedCore;
+use workload_gen::program;
+
+/// The text that a command writes, the machine at the end of its run if it runs one, and what is answered once the
+/// text is written.
+#[derive(Drop)]
+pub struct Output {
+    pub text: ByteList,
+    pub end: Option<Machine>,
+    pub answer: Answer,
+}
+
+impl From<OutOfMemory> for Answer {
+    ghost use Rattle.slacksim.specs.declared.answers.Answer.TheVariants as answers;
+
+    ghost from_gives = { λ _ a. a ≡ answers.OutOfMemory };
+
+    fn from(_error: OutOfMemory) -> Answer {
+        Answer::OutOfMemory
+    }
+}
+
+/// What the command of an order makes of its input, or the answer for an input that has a fault.
+pub fn output_of(alloc: Global, order: &Order, input: &[u8]) -> Result<Output, Answer>
+    requires short { length input.now < 2 ^ 32 }
+    requires room { order.now.command ≡ Command.Gen → 131072 ≤ order.now.config.memory }
+    ensures output { IfOk result (λ out. IsOutputBy order.now.command (contents_of order.now) input.now out.end out.text) }
+    ensures answer { IfOk result (λ out. out.answer ≡ answer_at out.end) }
+    ensures whole { IfOk result (λ out. IsWhole out.answer) }
+    ensures accepted { IfOk result (λ _. refusal_by order.now.command (numbers_of order.now.config) input.now ≡ None) }
+    ensures refused { IfErr result (λ answer. (answer ≡ Answer.OutOfMemory) ⊎ (refusal_by order.now.command (numbers_of order.now.config) input.now ≡ Some answer)) }
+{
+    match order.command {
+        Command::Run => run_output(alloc, order, input),
+        Command::Gen => Ok(gen_output(alloc, order)?),
+        Command::Asm => asm_output(alloc, order, input),
+        Command::List => list_output(alloc, order, input),
+    }
+}
+
+/// `run`: the image that the input gives is run.
+fn run_output(alloc: Global, order: &Order, input: &[u8]) -> Result<Output, Answer>
+    ensures output { IfOk result (λ out. IsRunOutput (contents_of order.now) input.now out.end out.text) }
+    ensures answer { IfOk result (λ out. out.answer ≡ answer_at out.end) }
+    ensures whole { IfOk result (λ out. IsWhole out.answer) }
+    ensures accepted { IfOk result (λ _. image_refusal (image_told (numbers_of order.now.config) input.now) ≡ None) }
+    ensures refused { IfErr result (λ answer. (answer ≡ Answer.OutOfMemory) ⊎ (image_refusal (image_told (numbers_of order.now.config) input.now) ≡ Some answer)) }
+{
+    let image = image_in(alloc, &order.config, input)?;
+    let machine = run_image(alloc, &order.config, &image)?;
+    let text = text_of_run(alloc, order, &machine)?;
+    Ok(ended(text, machine))
+}
+
+/// `gen`: the program of the seed is run.
+fn gen_output(alloc: Global, order: &Order) -> Result<Output, OutOfMemory>
+    requires { 131072 ≤ order.now.config.memory }
+    ensures output { IfOk result (λ out. IsGenOutput (contents_of order.now) out.end out.text) }
+    ensures answer { IfOk result (λ out. out.answer ≡ answer_at out.end) }
+    ensures whole { IfOk result (λ out. IsWhole out.answer) }
+{
+    let image = program(alloc, order.seed, &order.config)?;
+    let machine = run_image(alloc, &order.config, &image)?;
+    let text = text_of_gen(alloc, order, &machine)?;
+    Ok(ended(text, machine))
+}
+
+/// `asm`: the flat file of the program that the input says.
+fn asm_output(alloc: Global, order: &Order, input: &[u8]) -> Result<Output, Answer>
+    requires { length input.now < 2 ^ 32 }
+    ensures output { IfOk result (λ out. IsAsmOutput (contents_of order.now) input.now out.end out.text) }
+    ensures answer { IfOk result (λ out. out.answer ≡ answer_at out.end) }
+    ensures whole { IfOk result (λ out. IsWhole out.answer) }
+    ensures accepted { IfOk result (λ _. text_refusal (program_of input.now) ≡ None) }
+    ensures refused { IfErr result (λ answer. (answer ≡ Answer.OutOfMemory) ⊎ (text_refusal (program_of input.now) ≡ Some answer)) }
+{
+    let image = assembly_in(alloc, order.config.base, input)?;
+    let text = flat_bytes(alloc, &image)?;
+    Ok(written(text))
+}
+
+/// `list`: the listing of the image that the input gives.
+fn list_output(alloc: Global, order: &Order, input: &[u8]) -> Result<Output, Answer>
+    ensures output { IfOk result (λ out. IsListOutput (contents_of order.now) input.now out.end out.text) }
+    ensures answer { IfOk result (λ out. out.answer ≡ answer_at out.end) }
+    ensures whole { IfOk result (λ out. IsWhole out.answer) }
+    ensures accepted { IfOk result (λ _. image_refusal (image_told (numbers_of order.now.config) input.now) ≡ None) }
+    ensures refused { IfErr result (λ answer. (answer ≡ Answer.OutOfMemory) ⊎ (image_refusal (image_told (numbers_of order.now.config) input.now) ≡ Some answer)) }
+{
+    let image = image_in(alloc, &order.config, input)?;
+    let text = listing_of(alloc, &order.config, &image)?;
+    Ok(written(text))
+}
+
+/// The image of a file.
+fn image_in(alloc: Global, config: &Config, input: &[u8]) -> Result<Image, Answer>
+    ensures image { IfOk result (λ image. image_told (numbers_of config.now) input.now ≡ Ok image) }
+    ensures fits { IfOk result (λ image. Fits config.now.base config.now.memory image) }
+    ensures refused { IfErr result (λ answer. (answer ≡ Answer.OutOfMemory) ⊎ (image_refusal (image_told (numbers_of config.now) input.now) ≡ Some answer)) }
+{
+    match read_image(alloc, input, config) {
+        Ok(image) => Ok(image),
+        Err(ImageError::Fault(fault)) => Err(Answer::BadImage(fault)),
+        Err(ImageError::OutOfMemory) => Err(Answer::OutOfMemory),
+    }
+}
+
+/// The image of an assembler text.
+fn assembly_in(alloc: Global, base: u32, input: &[u8]) -> Result<Image, Answer>
+    requires { length input.now < 2 ^ 32 }
+    ensures image { IfOk result (IsAssembly input.now base) }
+    ensures refused { IfErr result (λ answer. (answer ≡ Answer.OutOfMemory) ⊎ (text_refusal (program_of input.now) ≡ Some answer)) }
+{
+    match assemble(alloc, input, base) {
+        Ok(image) => Ok(image),
+        Err(AsmError::Fault(fault)) => Err(Answer::BadText(fault)),
+        Err(AsmError::OutOfMemory) => Err(Answer::OutOfMemory),
+    }
+}
+
+/// The listing of an image that fits its memory.
+fn listing_of(alloc: Global, config: &Config, image: &Image) -> Result<ByteList, OutOfMemory>
+    requires { Fits config.now.base config.now.memory image.now }
+    ensures { IfOk result (IsListing image.now) }
+{
+    listing(alloc, image)
+}
+
+/// A run came to its end with this machine.
+fn ended(text: ByteList, machine: Machine) -> Output
+    requires { length machine.cores ≤ 8 }
+    ensures text { result.text ≡ text }
+    ensures end { result.end ≡ Some machine }
+    ensures answer { result.answer ≡ answer_of machine }
+    ensures whole { IsWhole result.answer }
+{
+    let answer = final_answer(&machine);
+    Output {
+        text,
+        end: Some(machine),
+        answer,
+    }
+}
+
+/// A text that belongs to no run.
+fn written(text: ByteList) -> Output
+    ensures text { result.text ≡ text }
+    ensures end { result.end ≡ None }
+    ensures answer { result.answer ≡ Answer.Done true }
+    ensures whole { IsWhole result.answer }
+{
+    Output {
+        text,
+        end: None,
+        answer: Answer::Done { all_zero: true },
+    }
+}
+
+/// What is answered of a machine whose whole text is written.
+fn final_answer(machine: &Machine) -> Answer
+    requires { length machine.now.cores ≤ 8 }
+    ensures value { result ≡ answer_of machine.now }
+    ensures whole { IsWhole result }
+{
+    let cores = machine.cores.as_slice();
+    let running = running(cores);
+    if running == 0 {
+        Answer::Done {
+            all_zero: all_zero(cores),
+        }
+    } else {
+        Answer::Limit {
+            cycle: machine.clock,
+            running,
+        }
+    }
+}
+
+/// How many cores are running.
+fn running(cores: &[TimedCore]) -> u32
+    requires { length cores.now ≤ 8 }
+    ensures { result ≡ running_of cores.now }
+{
+    cores.iter().filter(|core| core.is_running()).count() as u32
+}
+
+/// Whether all cores exited with 0.
+fn all_zero(cores: &[TimedCore]) -> bool
+    ensures { result ≡ all_zero_of cores.now }
+{
+    cores.iter().all(|core| is_zero_exit(core.end()))
+}
+
+fn is_zero_exit(ended: CoreEnd) -> bool
+    ensures { result ≡ is_zero_exit ended }
+{
+    matches!(ended, CoreEnd::Exit { code: 0, .. })
+}

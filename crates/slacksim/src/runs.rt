@@ -1,0 +1,81 @@
+//! Running an image, and the text of the run.
+ghost use Rattle.std.specs.Prelude.{◌≡◌, ◌≤◌, ◌++◌, length, IfOk, OnOk};
+ghost use Rattle.slack_base.specs.Images.{Fits};
+ghost use Rattle.slack_base.specs.Numbers.{numbers_of};
+ghost use Rattle.sim_words.specs.Contents.{contents_of};
+ghost use Rattle.slacksim.specs.Ends.{IsLockstepEnd};
+ghost use Rattle.slacksim.specs.Texts.{report_in, run_text, gen_line};
+
+use lockstep_model::{Machine, RvTarget, run, start};
+use sim_words::{Format, Order};
+use slack_base::{ByteList, Config, Image, OutOfMemory};
+use stat_report::{Text, report_text};
+use std::alloc::Global;
+
+/// The machine of an image at the checkpoint where its run stops.
+pub fn run_image(alloc: Global, config: &Config, image: &Image) -> Result<Machine, OutOfMemory>
+    requires { Fits config.now.base config.now.memory image.now }
+    ensures end { IfOk result (IsLockstepEnd (numbers_of config.now) image.now) }
+    ensures cores { IfOk result (λ machine. length machine.cores ≤ 8) }
+{
+    let interval = u64::from(config.interval);
+    let limit = u64::from(config.limit);
+    let target = RvTarget::make(alloc, *config, image)?;
+    let mut machine = start(alloc, &target, image)?;
+    run(alloc, &target, &mut machine, interval, limit)?;
+    Ok(machine)
+}
+
+/// The text of a run that ended with this machine.
+#[tactic(auto, unfolding(crate::specs::Texts::run_text))]
+pub fn text_of_run(alloc: Global, order: &Order, machine: &Machine) -> Result<ByteList, OutOfMemory>
+    ensures { IfOk result (λ text. text ≡ run_text (contents_of order.now) machine.now) }
+{
+    let mut text = Text::new(alloc);
+    push_run(&mut text, alloc, order, machine)?;
+    Ok(text.into_list())
+}
+
+/// The text of a generated run that ended with this machine.
+pub fn text_of_gen(alloc: Global, order: &Order, machine: &Machine) -> Result<ByteList, OutOfMemory>
+    ensures { IfOk result (λ text. text ≡ gen_line order.now.seed ++ run_text (contents_of order.now) machine.now) }
+{
+    let mut text = Text::new(alloc);
+    push_gen_line(&mut text, order.seed)?;
+    push_run(&mut text, alloc, order, machine)?;
+    Ok(text.into_list())
+}
+
+/// Appends the line that names the seed of a generated run.
+#[tactic(auto, unfolding(crate::specs::Texts::gen_line))]
+fn push_gen_line(text: &mut Text, seed: u32) -> Result<(), OutOfMemory>
+    ensures { OnOk result (text.new ≡ text.old ++ gen_line seed) }
+{
+    text.push_field("gen ", u64::from(seed))?;
+    text.push_str(" words 1005\n")
+}
+
+/// Appends the text of a run.
+#[tactic(auto, unfolding(crate::specs::Texts::run_text))]
+fn push_run(
+    text: &mut Text,
+    alloc: Global,
+    order: &Order,
+    machine: &Machine,
+) -> Result<(), OutOfMemory>
+    ensures { OnOk result (text.new ≡ text.old ++ run_text (contents_of order.now) machine.now) }
+{
+    let report = report_in(alloc, order.format, machine)?;
+    text.push_bytes(report.as_slice())
+}
+
+/// The report in a format.
+fn report_in(alloc: Global, format: Format, machine: &Machine) -> Result<ByteList, OutOfMemory>
+    ensures { IfOk result (λ text. text ≡ report_in format machine.now) }
+{
+    match format {
+        Format::Text => report_text(alloc, machine),
+        Format::Json => report_text(alloc, machine),
+        Format::Dump => report_text(alloc, machine),
+    }
+}
