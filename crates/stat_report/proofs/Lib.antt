@@ -1,3 +1,4 @@
+mod Fitting
 mod Lines
 mod Order
 mod Unique
