@@ -1,3 +1,4 @@
+mod Fitting
 mod ListedLines
 mod Order
 mod Unique
