@@ -1,3 +1,4 @@
 mod ListedLines
+mod NumberedLines
 mod Order
 mod Unique

@@ -1,4 +1,5 @@
 pub mod Hexadecimal
 pub mod Lines
 pub mod Listing
+pub mod Notes
 pub mod Report

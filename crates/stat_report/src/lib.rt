@@ -4,11 +4,13 @@
 pub mod laws;
 mod lines;
 mod listings;
+mod notes;
 mod reports;
 #[cfg(test)]
 mod tests;
 mod texts;
 
 pub use listings::listing;
+pub use notes::notes_text;
 pub use reports::report_text;
 pub use texts::Text;
