@@ -1,4 +1,6 @@
+mod Dumping
 mod ListedLines
 mod NumberedLines
 mod Order
+mod Places
 mod Unique

@@ -1,3 +1,4 @@
+pub mod Dump
 pub mod Hexadecimal
 pub mod Lines
 pub mod Listing

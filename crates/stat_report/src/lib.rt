@@ -1,6 +1,7 @@
 //! The texts of a run, and the listing of an image.
 #![tactic(auto)]
 
+mod dumps;
 pub mod laws;
 mod lines;
 mod listings;
@@ -10,6 +11,7 @@ mod reports;
 mod tests;
 mod texts;
 
+pub use dumps::dump_text;
 pub use listings::listing;
 pub use notes::notes_text;
 pub use reports::report_text;
