@@ -1,5 +1,5 @@
 -- The words of a line, and the lines that are left of a dump.
-use Rattle.std.proofs.Common.{◌≡◌, ◌∙◌, ℕ, ◌+◌, ◌-◌, ◌*◌, ◌%◌, ◌<◌, ◌≤◌, List, ◌++◌, Option, Some, None, length, drop, get_or, option_map, option_and_then, refl, sym, ap, subst, arith}
+use Rattle.std.proofs.Common.{◌≡◌, ◌∙◌, ℕ, ◌+◌, ◌*◌, ◌%◌, ◌<◌, ◌≤◌, List, ◌++◌, Some, None, length, drop, get_or, option_map, option_and_then, refl, sym, ap, subst, arith}
 use Rattle.std.specs.List.{cons_option, filter_map, flat_map, range_with_len, slice_get}
 use Rattle.std.proofs.lemmas.List.{at_drop_more, at_drop_all}
 use Rattle.std.proofs.lemmas.Option.{slice_get_read}

@@ -1,5 +1,6 @@
 mod Dumping
 mod ListedLines
+mod NoFloats
 mod NumberedLines
 mod Order
 mod Places

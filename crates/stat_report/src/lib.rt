@@ -6,6 +6,7 @@ pub mod laws;
 mod lines;
 mod listings;
 mod notes;
+mod objects;
 mod reports;
 #[cfg(test)]
 mod tests;
@@ -14,5 +15,6 @@ mod texts;
 pub use dumps::dump_text;
 pub use listings::listing;
 pub use notes::notes_text;
+pub use objects::report_json;
 pub use reports::report_text;
 pub use texts::Text;

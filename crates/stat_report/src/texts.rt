@@ -111,7 +111,8 @@ impl Text {
     }
 }
 
-fn hex_digit(digit: u32) -> u8
+/// A hexadecimal digit, in lower case.
+pub fn hex_digit(digit: u32) -> u8
     requires { digit < 16 }
     ensures { result ≡ hex_digit digit }
 {

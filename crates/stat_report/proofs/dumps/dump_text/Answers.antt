@@ -1,4 +1,4 @@
-use Rattle.std.proofs.Common.{◌≡◌, ◌∙◌, ◌+◌, ◌*◌, ◌++◌, sym, ap, append_assoc, rules}
+use Rattle.std.proofs.Common.{◌≡◌, ◌∙◌, ◌+◌, ◌*◌, ◌++◌, sym, ap, append_assoc}
 use Rattle.slack_base.specs.Numbers.{numbers_of}
 use Rattle.bus_model.specs.Channels.{lines_of}
 use Rattle.stat_report.specs.Dump.{dump_at, dump_line}

@@ -1,4 +1,4 @@
-use Rattle.std.proofs.Common.{◌%◌, ◌<◌, length, get_or, sym, subst, arith, rules}
+use Rattle.std.proofs.Common.{◌%◌, ◌<◌, length, sym, subst, rules}
 use Rattle.slack_base.specs.Numbers.{numbers_of}
 use Rattle.bus_model.specs.Asks.{HasLine}
 use Rattle.stat_report.proofs.Dumping.{line_of_bus, words_in_memory}

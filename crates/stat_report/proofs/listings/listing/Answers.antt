@@ -1,4 +1,4 @@
-use Rattle.std.proofs.Common.{◌≡◌, ◌^◌, All, Bor, map, sym, subst}
+use Rattle.std.proofs.Common.{◌^◌, All, Bor, map, sym, subst}
 use Rattle.std.proofs.lemmas.List.Sorted.{All-permutation}
 use Rattle.slack_base.specs.Images.{IsInMemory}
 use Rattle.slack_base.specs.declared.images.Segment.{Segment}
