@@ -6,20 +6,7 @@ use Rattle.std.proofs.lemmas.Bool.Decides.{nat_tests}
 use Rattle.byteorder.specs.Endian.{little_number}
 use Rattle.slack_base.specs.declared.images.Segment.{Segment}
 use Rattle.stat_report.specs.Listing.{line, line_at, segment_text}
-
--- what f gives at each place from one on, below an end
-abbrev from : (ℕ → List ℕ) → ℕ → ℕ → List ℕ
-from f end place = flat_map f (range_with_len place (end - place))
-
-from_more : (f : ℕ → List ℕ) (end place : ℕ) → place < end → from f end place ≡ f place ++ from f end (place + 1)
-from_more f end place some =
-    let left : end - place ≡ suc (end - (place + 1)) = omega (arith, add-one (end - (place + 1))) in
-    ap (λ n. flat_map f (range_with_len place n)) left
-
-from_none : (f : ℕ → List ℕ) (end place : ℕ) → end ≤ place → from f end place ≡ []
-from_none f end place none =
-    let left : end - place ≡ 0 = omega arith in
-    ap (λ n. flat_map f (range_with_len place n)) left
+use Rattle.stat_report.proofs.Places.{from, from_more, from_none}
 
 skip_one : (f : ℕ → List ℕ) (end place : ℕ) → f place ≡ [] → from f end place ≡ from f end (place + 1)
 skip_one f end place nothing =

@@ -67,7 +67,8 @@ pub fn end_cycle(clock: u64, ended: CoreEnd) -> u64
     }
 }
 
-fn trap_name(trap: Trap) -> &'static str
+/// The name of a trap in the report.
+pub fn trap_name(trap: Trap) -> &'static str
     ensures { result.now ≡ trap_name trap }
 {
     match trap {
@@ -81,7 +82,8 @@ fn trap_name(trap: Trap) -> &'static str
     }
 }
 
-fn trap_value(trap: Trap) -> u32
+/// The word, address or number that a trap shows.
+pub fn trap_value(trap: Trap) -> u32
     ensures { result ≡ trap_value trap }
 {
     match trap {

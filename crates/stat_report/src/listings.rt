@@ -1,7 +1,7 @@
 //! Listings of images.
 ghost use Rattle.std.specs.Prelude.{◌≡◌, ◌+◌, ◌%◌, ◌^◌, ◌<◌, ◌≤◌, ◌++◌, All, AllPairs, IfOk, OnOk, flat_map, length, map};
 ghost use Rattle.slack_base.specs.Images.{IsInMemory, IsApart};
-ghost use Rattle.stat_report.specs.Listing.{IsInOrder, IsListing, hex_field, line, segment_text, word_text};
+ghost use Rattle.stat_report.specs.Listing.{IsInOrder, IsListing, line, segment_text, word_text};
 
 use crate::texts::Text;
 use byteorder::{ByteOrder, LittleEndian};
@@ -71,19 +71,10 @@ fn first_place(address: u32) -> usize
 fn push_line(text: &mut Text, address: u32, word: u32) -> Result<(), OutOfMemory>
     ensures { OnOk result (text.new ≡ text.old ++ line address word) }
 {
-    push_hex_field(text, address)?;
-    push_hex_field(text, word)?;
+    text.push_hex_field(address)?;
+    text.push_hex_field(word)?;
     push_word_text(text, word)?;
     text.push_str("\n")
-}
-
-/// Appends the eight digits of a word, and a blank.
-#[tactic(auto, unfolding(crate::specs::Listing::hex_field))]
-fn push_hex_field(text: &mut Text, word: u32) -> Result<(), OutOfMemory>
-    ensures { OnOk result (text.new ≡ text.old ++ hex_field word) }
-{
-    text.push_hex(word)?;
-    text.push_str(" ")
 }
 
 /// Appends the instruction of a word.

@@ -4,6 +4,7 @@ ghost use Rattle.std.specs.Fmt.{decimal};
 ghost use Rattle.rv_decode.specs.Texts.{text};
 ghost use Rattle.stat_report.specs.Hexadecimal.{hex_word, hex_digit};
 ghost use Rattle.stat_report.specs.Lines.{field};
+ghost use Rattle.stat_report.specs.Listing.{hex_field};
 
 use rv_decode::text_of;
 use slack_base::{ByteList, Instr, OutOfMemory};
@@ -83,6 +84,15 @@ impl Text {
         self.push_bytes(text.as_slice())
     }
 
+    /// Appends the eight hexadecimal digits of a word, and a blank.
+    #[tactic(auto, unfolding(crate::specs::Listing::hex_field))]
+    pub fn push_hex_field(&mut self, word: u32) -> Result<(), OutOfMemory>
+        ensures { OnOk result (self.new ≡ self.old ++ hex_field word) }
+    {
+        self.push_hex(word)?;
+        self.push_str(" ")
+    }
+
     /// Appends the eight hexadecimal digits of a word.
     #[tactic(auto, unfolding(crate::specs::Hexadecimal::hex_word))]
     pub fn push_hex(&mut self, word: u32) -> Result<(), OutOfMemory>
@@ -101,7 +111,8 @@ impl Text {
     }
 }
 
-fn hex_digit(digit: u32) -> u8
+/// A hexadecimal digit, in lower case.
+pub fn hex_digit(digit: u32) -> u8
     requires { digit < 16 }
     ensures { result ≡ hex_digit digit }
 {

@@ -1,0 +1,8 @@
+use Rattle.std.proofs.Common.{◌≡◌, map, filter, take}
+use Rattle.serde_json.specs.View.{view}
+use Rattle.stat_report.specs.Json.{bus_data, has_number}
+use Rattle.stat_report.proofs.objects.bus_values.Given as goal
+
+-- the buses so far
+abbrev pub invariant-loop-chan : goal.invariant-loop-chan
+invariant-loop-chan l = map view l.values.items ≡ map bus_data (filter has_number (take l.chan-index l.chans))

@@ -1,0 +1,8 @@
+use Rattle.std.proofs.Common.{◌≡◌, map, take}
+use Rattle.serde_json.specs.View.{view}
+use Rattle.stat_report.specs.Json.{core_data}
+use Rattle.stat_report.proofs.objects.core_values.Given as goal
+
+-- the cores so far
+abbrev pub invariant-loop-core : goal.invariant-loop-core
+invariant-loop-core l = map view l.values.items ≡ map (core_data l.clock) (take l.core-index l.cores)
