@@ -428,6 +428,43 @@ fn fault_of(alloc: Global, words: &[&[u8]]) -> Option<WordError> {
     read(alloc, words).err()
 }
 
+/// Each option of a run.
+const WHOLE_RUN: &[u8] =
+    b"run --base 4096 --memory 8192 --cores 2 --sets 8 --ways 2 --buses 2 --snoop 3 --memory-delay 9 --transfer 4 --occupancy 5 --slack 6 --interval 7 --limit 8 --quantum 9 --mode script --format json --notes on --steps t0";
+
+#[test]
+fn all_options_of_a_run(rt: HostRuntime) -> Result<(), Fail> {
+    let order = read_line(rt.alloc(), WHOLE_RUN)?;
+    let numbers = RawConfig {
+        cores: 2,
+        base: 4096,
+        memory: 8192,
+        sets: 8,
+        ways: 2,
+        buses: 2,
+        snoop: 3,
+        memory_delay: 9,
+        transfer: 4,
+        occupancy: 5,
+        slack: 6,
+        interval: 7,
+        limit: 8,
+        quantum: 9,
+    };
+    assert_eq!(rt; Some(order.config), Config::checked(numbers).ok());
+    assert_eq!(rt; (order.mode, order.format), (Mode::Script, Format::Json));
+    assert!(rt; order.notes);
+    assert_eq!(rt; order.steps.as_slice(), [Step::Tick { core: 0 }].as_slice());
+    let mut words = words_of(rt.alloc(), WHOLE_RUN)?;
+    words.push(Arg::of(rt.alloc(), "--base")?)?;
+    let fault = read_words(rt.alloc(), &words).err();
+    assert_eq!(rt;
+        fault,
+        Some(WordError::Fault(WordFault::Twice { place: 37 }))
+    );
+    Ok(())
+}
+
 #[test]
 fn commands_have_their_options(rt: HostRuntime) {
     let unknown = Some(WordError::Fault(WordFault::Option { place: 1 }));
