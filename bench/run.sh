@@ -1,7 +1,7 @@
 #!/usr/bin/env bash
-# Times the built program on two loops that never end, up to the default limit of 1,000,000 cycles: one of ten integer
-# instructions, and one of multiplications and divisions. It prints simulated core-cycles a second and the peak memory.
-# It is a measurement and no test.
+# Times the built program on loops that never end, up to the default limit of 1,000,000 cycles: in registers, with
+# multiplications and divisions, on lines of each core's own, and on one line that all share. It prints simulated
+# core-cycles a second and the peak memory. It is a measurement and no test.
 set -eu
 top=$(cd "$(dirname "${BASH_SOURCE[0]}")/.." && pwd)
 
@@ -14,7 +14,7 @@ fastest() {
 
 "$top/slacksim" run <"$top/examples/exit.slk1" >/dev/null
 printf '%-10s %6s %12s %8s %15s %8s\n' loop cores core-cycles seconds core-cycles/s peak-KB
-for loop in loop products; do
+for loop in loop products private shared; do
     for cores in 1 2 4 8; do
         read -r seconds memory <<<"$(fastest "$loop" "$cores")"
         awk -v l="$loop" -v c="$cores" -v s="$seconds" -v m="$memory" \

@@ -2,14 +2,16 @@
 ghost use Rattle.std.specs.Prelude.{◌≡◌, ◌≤◌, ◌++◌, length, IfOk, OnOk};
 ghost use Rattle.slack_base.specs.Images.{Fits};
 ghost use Rattle.slack_base.specs.Numbers.{numbers_of};
+ghost use Rattle.lockstep_model.specs.Proper.{IsProper};
+ghost use Rattle.lockstep_model.specs.Views.{state_of};
 ghost use Rattle.sim_words.specs.Contents.{contents_of};
 ghost use Rattle.slacksim.specs.Ends.{IsLockstepEnd};
-ghost use Rattle.slacksim.specs.Texts.{report_in, run_text, gen_line};
+ghost use Rattle.slacksim.specs.Texts.{notes_in, report_in, run_text, gen_line};
 
 use lockstep_model::{Machine, RvTarget, run, start};
 use sim_words::{Format, Order};
-use slack_base::{ByteList, Config, Image, OutOfMemory};
-use stat_report::{Text, report_text};
+use slack_base::{ByteList, Config, Image, NoteList, OutOfMemory};
+use stat_report::{Text, dump_text, notes_text, report_json, report_text};
 use std::alloc::Global;
 
 /// The machine of an image at the checkpoint where its run stops.
@@ -17,6 +19,7 @@ pub fn run_image(alloc: Global, config: &Config, image: &Image) -> Result<Machin
     requires { Fits config.now.base config.now.memory image.now }
     ensures end { IfOk result (IsLockstepEnd (numbers_of config.now) image.now) }
     ensures cores { IfOk result (λ machine. length machine.cores ≤ 8) }
+    ensures proper { IfOk result (λ machine. IsProper (numbers_of config.now) (state_of machine)) }
 {
     let interval = u64::from(config.interval);
     let limit = u64::from(config.limit);
@@ -29,6 +32,7 @@ pub fn run_image(alloc: Global, config: &Config, image: &Image) -> Result<Machin
 /// The text of a run that ended with this machine.
 #[tactic(auto, unfolding(crate::specs::Texts::run_text))]
 pub fn text_of_run(alloc: Global, order: &Order, machine: &Machine) -> Result<ByteList, OutOfMemory>
+    requires { IsProper (numbers_of order.now.config) (state_of machine.now) }
     ensures { IfOk result (λ text. text ≡ run_text (contents_of order.now) machine.now) }
 {
     let mut text = Text::new(alloc);
@@ -38,6 +42,7 @@ pub fn text_of_run(alloc: Global, order: &Order, machine: &Machine) -> Result<By
 
 /// The text of a generated run that ended with this machine.
 pub fn text_of_gen(alloc: Global, order: &Order, machine: &Machine) -> Result<ByteList, OutOfMemory>
+    requires { IsProper (numbers_of order.now.config) (state_of machine.now) }
     ensures { IfOk result (λ text. text ≡ gen_line order.now.seed ++ run_text (contents_of order.now) machine.now) }
 {
     let mut text = Text::new(alloc);
@@ -63,19 +68,33 @@ fn push_run(
     order: &Order,
     machine: &Machine,
 ) -> Result<(), OutOfMemory>
+    requires { IsProper (numbers_of order.now.config) (state_of machine.now) }
     ensures { OnOk result (text.new ≡ text.old ++ run_text (contents_of order.now) machine.now) }
 {
-    let report = report_in(alloc, order.format, machine)?;
-    text.push_bytes(report.as_slice())
+    let report = report_in(alloc, order, machine)?;
+    text.push_bytes(report.as_slice())?;
+    push_notes(text, alloc, order.notes)
 }
 
-/// The report in a format.
-fn report_in(alloc: Global, format: Format, machine: &Machine) -> Result<ByteList, OutOfMemory>
-    ensures { IfOk result (λ text. text ≡ report_in format machine.now) }
+/// Appends the notes, where they are asked for. Cycle by cycle there are none.
+fn push_notes(text: &mut Text, alloc: Global, notes: bool) -> Result<(), OutOfMemory>
+    ensures { OnOk result (text.new ≡ text.old ++ notes_in notes) }
 {
-    match format {
+    if notes {
+        let none = notes_text(alloc, &NoteList::new(alloc), 0, 0)?;
+        text.push_bytes(none.as_slice())?;
+    }
+    Ok(())
+}
+
+/// The report in the format of the order.
+fn report_in(alloc: Global, order: &Order, machine: &Machine) -> Result<ByteList, OutOfMemory>
+    requires { IsProper (numbers_of order.now.config) (state_of machine.now) }
+    ensures { IfOk result (λ text. text ≡ report_in order.now.format (numbers_of order.now.config) machine.now) }
+{
+    match order.format {
         Format::Text => report_text(alloc, machine),
-        Format::Json => report_text(alloc, machine),
-        Format::Dump => report_text(alloc, machine),
+        Format::Json => report_json(alloc, machine),
+        Format::Dump => dump_text(alloc, &order.config, machine),
     }
 }

@@ -64,3 +64,40 @@ fn runs_a_generated_program(rt: HostRuntime) -> Result<(), Fail> {
     assert_eq!(rt; first.text.as_slice(), second.text.as_slice());
     Ok(())
 }
+
+/// A flat file of `lui x8, 1`, `sw x10, 0(x8)` and an exit with 0.
+const STORE: &[u8] =
+    b"SLK1\0\0\0\0\0\0\0\0\x14\0\0\0\x37\x14\0\0\x23\x20\xa4\0\x93\x08\xd0\x05\x13\x05\0\0\x73\0\0\0";
+
+#[test]
+fn reports_in_json(rt: HostRuntime) -> Result<(), Fail> {
+    let file = Vec::from_slice(rt.alloc(), FILE)?;
+    let outcome = call(&rt, &["run", "--format", "json"], file, WHOLE)?;
+    let expected =
+        b"{\"buses\":[{\"asks\":0,\"free\":0,\"retries\":0}],\"console\":\"\",\"cores\":[{\"accesses\":0,\"at\":2,\"end\":\"exit\",\"misses\":0,\"retired\":3,\"retries\":0,\"snoops\":0,\"value\":0,\"waits\":0,\"writebacks\":0}],\"cycles\":3}\n";
+    assert_eq!(rt; outcome.text.as_slice(), expected);
+    Ok(())
+}
+
+#[test]
+fn dumps_memory(rt: HostRuntime) -> Result<(), Fail> {
+    // The line of 00001000 has core 1's number: its cache holds the line in state Modified.
+    let words = ["run", "--cores", "2", "--format", "dump"];
+    let outcome = call(&rt, &words, Vec::from_slice(rt.alloc(), STORE)?, WHOLE)?;
+    let expected =
+        b"00000000 00001437 00a42023 05d00893 00000513\n00000010 00000073 00000000 00000000 00000000\n00001000 00000001 00000000 00000000 00000000\n";
+    assert_eq!(rt; outcome.text.as_slice(), expected);
+    Ok(())
+}
+
+#[test]
+fn has_no_notes(rt: HostRuntime) -> Result<(), Fail> {
+    let file = Vec::from_slice(rt.alloc(), FILE)?;
+    let outcome = call(&rt, &["run", "--notes", "on"], file, WHOLE)?;
+    assert!(rt;
+        outcome
+            .text
+            .ends_with(b"console 0\n\nticks drift 0 replay 0\n")
+    );
+    Ok(())
+}
