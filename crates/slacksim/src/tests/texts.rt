@@ -47,7 +47,7 @@ fn refuses_a_text(rt: HostRuntime) -> Result<(), Fail> {
 fn lists(rt: HostRuntime) -> Result<(), Fail> {
     let file = Vec::from_slice(rt.alloc(), FILE)?;
     let outcome = call(&rt, &["list"], file, WHOLE)?;
-    let expected =
+    let expected: &[u8] =
         b"00000000 05d00893 addi x17, x0, 93\n00000004 00000513 addi x10, x0, 0\n00000008 00000073 ecall\n";
     assert_eq!(rt; outcome.text.as_slice(), expected);
     assert_eq!(rt; outcome.finish.answer, Answer::Done { all_zero: true });
@@ -73,7 +73,7 @@ const STORE: &[u8] =
 fn reports_in_json(rt: HostRuntime) -> Result<(), Fail> {
     let file = Vec::from_slice(rt.alloc(), FILE)?;
     let outcome = call(&rt, &["run", "--format", "json"], file, WHOLE)?;
-    let expected =
+    let expected: &[u8] =
         b"{\"buses\":[{\"asks\":0,\"free\":0,\"retries\":0}],\"console\":\"\",\"cores\":[{\"accesses\":0,\"at\":2,\"end\":\"exit\",\"misses\":0,\"retired\":3,\"retries\":0,\"snoops\":0,\"value\":0,\"waits\":0,\"writebacks\":0}],\"cycles\":3}\n";
     assert_eq!(rt; outcome.text.as_slice(), expected);
     Ok(())
@@ -84,7 +84,7 @@ fn dumps_memory(rt: HostRuntime) -> Result<(), Fail> {
     // The line of 00001000 has core 1's number: its cache holds the line in state Modified.
     let words = ["run", "--cores", "2", "--format", "dump"];
     let outcome = call(&rt, &words, Vec::from_slice(rt.alloc(), STORE)?, WHOLE)?;
-    let expected =
+    let expected: &[u8] =
         b"00000000 00001437 00a42023 05d00893 00000513\n00000010 00000073 00000000 00000000 00000000\n00001000 00000001 00000000 00000000 00000000\n";
     assert_eq!(rt; outcome.text.as_slice(), expected);
     Ok(())
