@@ -60,7 +60,7 @@ fn core_values(alloc: Global, clock: u64, cores: &[TimedCore]) -> Result<Vec<Val
 
 /// A core, at the machine's clock.
 #[tactic(auto, unfolding(crate::specs::Json::core_object))]
-fn core_value(
+pub(crate) fn core_value(
     alloc: Global,
     clock: u64,
     ended: CoreEnd,
@@ -151,7 +151,7 @@ fn console_digits(alloc: Global, chans: &[Channel]) -> Result<String, OutOfMemor
 
 /// Bytes in hexadecimal, two digits each.
 #[tactic(auto, unfolding(crate::specs::Json::hex_bytes))]
-fn hex_bytes(alloc: Global, bytes: &[u8]) -> Result<String, OutOfMemory>
+pub(crate) fn hex_bytes(alloc: Global, bytes: &[u8]) -> Result<String, OutOfMemory>
     ensures { IfOk result (λ digits. string_bytes digits ≡ hex_bytes bytes.now) }
 {
     let mut digits = String::new(alloc);

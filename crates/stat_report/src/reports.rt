@@ -110,7 +110,7 @@ fn push_buses(text: &mut Text, chans: &[Channel]) -> Result<(), OutOfMemory>
 }
 
 #[tactic(auto, unfolding(crate::specs::Report::console_text))]
-fn push_console(text: &mut Text, bytes: &[u8]) -> Result<(), OutOfMemory>
+pub(crate) fn push_console(text: &mut Text, bytes: &[u8]) -> Result<(), OutOfMemory>
     ensures { OnOk result (text.new ≡ text.old ++ console_text bytes.now) }
 {
     text.push_field("console ", bytes.len() as u64)?;

@@ -1,4 +1,4 @@
-//! Listings worked by hand.
+//! Texts worked by hand. Here: listings.
 ghost use Rattle.std.specs.Prelude.{◌≡◌, ◌+◌, ◌^◌, ◌<◌, IfOk, length};
 ghost use Rattle.slack_base.specs.declared.images.Segment.{Segment};
 
@@ -6,6 +6,11 @@ use crate::listing;
 use slack_base::{ByteList, Image, OutOfMemory, Segment, SegmentList};
 use std::alloc::Global;
 use std::test::Fail;
+
+mod consoles;
+mod ends;
+mod machines;
+mod notes;
 
 /// A segment of these bytes and of four more, which no file gives.
 fn segment(alloc: Global, address: u32, bytes: &[u8]) -> Result<Segment, OutOfMemory>

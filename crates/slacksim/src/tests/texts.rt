@@ -22,10 +22,8 @@ fn assembles(rt: HostRuntime) -> Result<(), Fail> {
 #[test]
 fn assembles_nothing(rt: HostRuntime) -> Result<(), Fail> {
     let outcome = call(&rt, &["asm", "--base", "4096"], Vec::new(rt.alloc()), WHOLE)?;
-    assert_eq!(rt;
-        outcome.text.as_slice(),
-        b"SLK1\0\x10\0\0\0\x10\0\0\0\0\0\0"
-    );
+    let expected: &[u8] = b"SLK1\0\x10\0\0\0\x10\0\0\0\0\0\0";
+    assert_eq!(rt; outcome.text.as_slice(), expected);
     Ok(())
 }
 
