@@ -10,6 +10,7 @@ use std::alloc::Global;
 use std::test::Fail;
 use std::thread::Threads;
 
+mod assembled;
 mod failures;
 mod machines;
 mod programs;
