@@ -2,6 +2,7 @@
 ghost use Rattle.std.specs.Prelude.{◌≡◌, ◌≤◌, ◌⊎◌, Ok, Err, IfOk, IsErrOf};
 ghost use Rattle.slack_base.specs.declared.faults.WordFault.{WordFault};
 ghost use Rattle.sim_words.specs.Contents.{contents_of};
+ghost use Rattle.sim_words.specs.Reading.{words_of};
 ghost use Rattle.slacksim.specs.Orders.{order_of, is_built};
 
 use sim_words::{Command, Mode, Order, WordError, read_words};
@@ -14,6 +15,7 @@ pub fn read_order(alloc: Global, words: &[Arg]) -> Result<Order, WordError>
     ensures order { IfOk result (λ order. order_of words.now ≡ Ok (contents_of order)) }
     ensures room { IfOk result (λ order. order.command ≡ Command.Gen → 131072 ≤ order.config.memory) }
     ensures fault { (fault : WordFault) → IsErrOf result (WordError.Fault fault) → order_of words.now ≡ Err fault }
+    ensures exact { (fault : WordFault) → words_of words.now ≡ Err fault → IsErrOf result (WordError.Fault fault) }
     ensures refused { (fault : WordFault) → order_of words.now ≡ Err fault → IsErrOf result (WordError.Fault fault) ⊎ IsErrOf result WordError.OutOfMemory }
 {
     match read_words(alloc, words) {

@@ -2,6 +2,7 @@
 ghost use Rattle.std.specs.Prelude.{◌≡◌, ◌+◌, ◌<◌, ◌≤◌, ◌^◌, ◌↔◌, ◌⊎◌, ℕ, List, [], Ok, Err, Some, None, length, IfOk, IfSome, IsErr, IsOkAnd};
 ghost use Rattle.io_edge.specs.Counting.{Rose};
 ghost use Rattle.slack_base.specs.declared.faults.WordFault.{WordFault};
+ghost use Rattle.sim_words.specs.Reading.{words_of};
 ghost use Rattle.slacksim.specs.declared.answers.Answer.TheVariants as answers;
 ghost use Rattle.slacksim.specs.Answers.{HasOutput, IsWhole, answer_at, status_of};
 ghost use Rattle.slacksim.specs.Inputs.{IsRefusal, Tells, most_bytes, refusal_of};
@@ -29,9 +30,11 @@ pub fn simulate<R: Threads + Sync, S: Source, W: Sink, G: Gate + Sync>(
     sink: &mut W,
     _gate: &G,
 ) -> Finish
-    // Words with a fault are refused, and nothing else is refused so; then nothing is read or written.
+    // Words with a fault are refused for it, and nothing else is refused so; then nothing is read or written. An order
+    // in a mode that isn't there may be answered by want of memory too.
     ensures bad_words { (fault : WordFault) → result.answer ≡ Answer.BadWords fault → order_of words.now ≡ Err fault }
-    ensures refuses_words { (fault : WordFault) → order_of words.now ≡ Err fault → (result.answer ≡ Answer.BadWords fault) ⊎ (result.answer ≡ Answer.OutOfMemory) }
+    ensures refuses_words { (fault : WordFault) → words_of words.now ≡ Err fault → result.answer ≡ Answer.BadWords fault }
+    ensures refuses_modes { (fault : WordFault) → order_of words.now ≡ Err fault → (result.answer ≡ Answer.BadWords fault) ⊎ (result.answer ≡ Answer.OutOfMemory) }
     ensures untouched { IsErr (order_of words.now) → (source.new ≡ source.old) × (sink.new ≡ sink.old) }
 
     // Reading: a failure of the source, more bytes than an input may have, and an input with a fault. `gen` reads nothing.
