@@ -1,0 +1,124 @@
+#!/usr/bin/env python3
+"""Compares the program with the model beside this file, over random programs and configurations.
+
+    python3 outside/compare.py [HOW MANY] [SEED]
+
+It is a test of the definitions that are proved of the program, by an outside reading of the rules.
+"""
+
+import pathlib
+import random
+import struct
+import subprocess
+import sys
+
+from model import DEFAULTS, Machine
+
+PROGRAM = pathlib.Path(__file__).resolve().parent.parent / "slacksim"
+REGISTERS = [0, 1, 5, 6, 7, 9, 10, 11]
+OFFSETS = [0, 1, 2, 4, 8, 12, 16, 20, 32, 48, 64, 80, -4, -16]
+
+
+def registers_word(rng, funct7, funct3, opcode=0x33):
+    rs2, rs1, rd = (rng.choice(REGISTERS) for _ in range(3))
+    return funct7 << 25 | rs2 << 20 | rs1 << 15 | funct3 << 12 | rd << 7 | opcode
+
+
+def immediate_word(rng, opcode, funct3, rs1):
+    return (rng.choice(OFFSETS) & 0xFFF) << 20 | rs1 << 15 | funct3 << 12 | rng.choice(REGISTERS) << 7 | opcode
+
+
+def store_word(rng):
+    offset = rng.choice(OFFSETS) & 0xFFF
+    kind = rng.choice([0, 1, 2, 2, 2])
+    return (offset >> 5) << 25 | rng.choice(REGISTERS) << 20 | 8 << 15 | kind << 12 | (offset & 31) << 7 | 0x23
+
+
+def atomic_word(rng, funct5, rs2):
+    return funct5 << 27 | rs2 << 20 | rng.choice([8, 8, 4]) << 15 | 2 << 12 | rng.choice(REGISTERS) << 7 | 0x2F
+
+
+def branch_word(rng):
+    offset = rng.choice([8, 8, 12, 16, -8, -16])
+    kind = rng.choice([0, 1, 4, 5, 6, 7])
+    upper = (offset >> 12 & 1) << 31 | (offset >> 5 & 63) << 25
+    lower = (offset >> 1 & 15) << 8 | (offset >> 11 & 1) << 7
+    return upper | rng.choice(REGISTERS) << 20 | rng.choice(REGISTERS) << 15 | kind << 12 | lower | 0x63
+
+
+def random_word(rng):
+    """An instruction, mostly: x8 and x4 hold addresses."""
+    kind = rng.randrange(100)
+    if kind < 28:
+        return registers_word(rng, rng.choice([0, 0, 1, 1]), rng.randrange(8))
+    if kind < 38:
+        return immediate_word(rng, 0x13, rng.choice([0, 2, 3, 4, 6, 7]), rng.choice(REGISTERS))
+    if kind < 60:
+        return immediate_word(rng, 0x03, rng.choice([0, 1, 2, 2, 2, 4, 5]), 8)
+    if kind < 75:
+        return store_word(rng)
+    if kind < 80:
+        return atomic_word(rng, 2, 0)
+    if kind < 85:
+        return atomic_word(rng, 3, rng.choice(REGISTERS))
+    if kind < 92:
+        return atomic_word(rng, rng.choice([1, 0, 4, 12, 8, 16, 20, 24, 28]), rng.choice(REGISTERS))
+    if kind < 96:
+        return branch_word(rng)
+    return rng.choice([0x73, rng.getrandbits(32), 0x0FF0000F, registers_word(rng, 0x20, rng.choice([0, 5]))])
+
+
+def random_config(rng):
+    snoop = rng.choice([1, 2, 5])
+    return {
+        **DEFAULTS,
+        "cores": rng.randrange(1, 9),
+        "base": rng.choice([0, 4096, 65536]),
+        "memory": rng.choice([32768, 65536]),
+        "sets": rng.choice([1, 1, 2, 4, 16, 64]),
+        "ways": rng.choice([1, 1, 1, 2, 4, 8]),
+        "buses": rng.choice([1, 2, 4]),
+        "snoop": snoop,
+        "memory-delay": snoop + rng.choice([1, 3, 12]),
+        "transfer": rng.choice([1, 3, 9]),
+        "occupancy": rng.choice([1, 2, 7]),
+        "interval": rng.choice([1, 100, 1000]),
+        "limit": rng.choice([3000, 5000]),
+    }
+
+
+def random_program(rng, base):
+    data = base + 0x4000
+    head = [data | 8 << 7 | 0x37, data | 4 << 7 | 0x37, rng.choice([0, 4, 16, 32]) << 20 | 4 << 15 | 4 << 7 | 0x13]
+    body = [random_word(rng) for _ in range(rng.randrange(20, 120))]
+    return struct.pack(f"<{len(head) + len(body) + 3}I", *head, *body, 0x05D00893, 0x00000513, 0x00000073)
+
+
+def output(config, image, *words):
+    options = [word for name, value in config.items() for word in (f"--{name}", str(value))]
+    return subprocess.run([PROGRAM, "run", *options, *words], input=image, capture_output=True).stdout
+
+
+def differs(rng):
+    config = random_config(rng)
+    base = config["base"]
+    code = random_program(rng, base)
+    image = b"SLK1" + struct.pack("<III", base, base, len(code)) + code
+    machine = Machine(config, base, [(base, code)])
+    machine.run()
+    same = output(config, image) == machine.report() and output(config, image, "--format", "dump") == machine.dump()
+    if not same:
+        print(f"differs: {config} {code.hex()}")
+    return not same
+
+
+def main():
+    count = int(sys.argv[1]) if len(sys.argv) > 1 else 200
+    rng = random.Random(int(sys.argv[2]) if len(sys.argv) > 2 else 1)
+    differences = sum(differs(rng) for _ in range(count))
+    print(f"{count} programs, {differences} differences")
+    sys.exit(differences > 0)
+
+
+if __name__ == "__main__":
+    main()
