@@ -158,3 +158,6 @@ fn delays(config: &Config) -> Delays
         transfer: u64::from(config.transfer),
     }
 }
+
+#[cfg(test)]
+mod tests;

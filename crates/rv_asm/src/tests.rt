@@ -4,7 +4,7 @@ use slack_base::{AsmFault, AsmKind};
 use std::alloc::Global;
 use std::test::Fail;
 
-const EACH: [(&str, u32); 84] = [
+const EACH: [(&str, u32); 99] = [
     ("lui x8, 1", 0x00001437),
     ("auipc t0, 1048575", 0xfffff297),
     ("jal x1, 2048", 0x001000ef),
@@ -89,6 +89,21 @@ const EACH: [(&str, u32); 84] = [
     ("add s8, s9, s10", 0x01ac8c33),
     ("add s11, t3, t4", 0x01de0db3),
     ("add t5, t6, fp", 0x008f8f33),
+    ("jal x1, 1048574", 0x7ffff0ef),
+    ("jal x1, -1048576", 0x800000ef),
+    ("jal x1, 0xffffe", 0x7ffff0ef),
+    ("beq x1, x2, 4094", 0x7e208fe3),
+    ("beq x1, x2, -0x1000", 0x80208063),
+    ("addi x1, x2, 2047", 0x7ff10093),
+    ("addi x1, x2, -2048", 0x80010093),
+    ("jalr x1, 2047(x2)", 0x7ff100e7),
+    ("sw x1, 2047(x2)", 0x7e112fa3),
+    ("sw x1, -0x800(x2)", 0x80112023),
+    ("lui x1, 0xFfFfF", 0xfffff0b7),
+    ("lui x1, 0", 0x000000b7),
+    ("slli x1, x2, 0x1f", 0x01f11093),
+    (".word -2147483648", 0x80000000),
+    (".word 0xffffffff", 0xffffffff),
 ];
 
 const EXIT_BYTES: [u8; 12] = [
@@ -160,7 +175,7 @@ const SAME: [(&str, &str); 14] = [
 ];
 
 /// Texts with a fault: its line and kind.
-const FAULTS: [(&str, u32, AsmKind); 60] = [
+const FAULTS: [(&str, u32, AsmKind); 72] = [
     ("nop # \x7f", 1, AsmKind::Byte),
     ("nop\r", 1, AsmKind::Byte),
     ("\nnop\r\r\n", 2, AsmKind::Byte),
@@ -221,6 +236,18 @@ const FAULTS: [(&str, u32, AsmKind); 60] = [
     (".word -2147483649", 1, AsmKind::Range),
     ("nop\n\nwalk\nwalk", 3, AsmKind::Mnemonic),
     ("j l\nwalk\nl:", 2, AsmKind::Mnemonic),
+    ("jal x1, 1048576", 1, AsmKind::Range),
+    ("jal x1, -1048578", 1, AsmKind::Range),
+    ("jal x1, 1048573", 1, AsmKind::Range),
+    ("beq x1, x2, -4098", 1, AsmKind::Range),
+    ("beq x1, x2, 0x1000", 1, AsmKind::Range),
+    ("addi x1, x2, 0x800", 1, AsmKind::Range),
+    ("jalr x1, -2049(x2)", 1, AsmKind::Range),
+    ("sw x1, -0x801(x2)", 1, AsmKind::Range),
+    ("lui x1, 0x100000", 1, AsmKind::Range),
+    ("slli x1, x2, 0x20", 1, AsmKind::Range),
+    (".word 0x100000000", 1, AsmKind::Operand),
+    (".word -0x80000001", 1, AsmKind::Range),
 ];
 
 /// The words of a text at address 0, or its fault: none where memory runs out.

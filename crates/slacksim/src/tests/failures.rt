@@ -9,6 +9,21 @@ const EXIT: [u32; 3] = [0x05D00893, 0x00000513, 0x00000073];
 const TEXT: &[u8] =
     b"cores 1\ncycles 3\ncore 0 exit 0 at 2 retired 3 accesses 0 misses 0 retries 0 waits 0 snoops 0 writebacks 0\nbus 0 asks 0 retries 0 free 0\nconsole 0\n\n";
 
+/// Whichever allocation is refused, nothing is written, or the whole text is: `rt try --test --fail-alloc N` refuses the
+/// one of that number.
+#[test]
+fn want_of_memory_writes_nothing(rt: HostRuntime) -> Result<(), Fail> {
+    let outcome = call(&rt, &["run"], flat(rt.alloc(), &EXIT)?, WHOLE)?;
+    if outcome.finish.answer == Answer::OutOfMemory {
+        assert_eq!(rt; outcome.finish.status, 7);
+        assert!(rt; outcome.finish.end.is_none());
+        assert!(rt; outcome.text.is_empty());
+    } else {
+        assert_eq!(rt; outcome.text.as_slice(), TEXT);
+    }
+    Ok(())
+}
+
 /// The file has 28 bytes: two calls of 16 bytes take it, and a third sees its end.
 #[test]
 fn a_source_that_fails(rt: HostRuntime) -> Result<(), Fail> {

@@ -63,6 +63,15 @@ fn runs_a_generated_program(rt: HostRuntime) -> Result<(), Fail> {
     Ok(())
 }
 
+#[test]
+fn runs_on_eight_cores_and_the_largest_memory(rt: HostRuntime) -> Result<(), Fail> {
+    let words = ["gen", "--cores", "8", "--memory", "4194304"];
+    let outcome = call(&rt, &words, Vec::new(rt.alloc()), WHOLE)?;
+    assert!(rt; outcome.text.starts_with(b"gen 1 words 1005\ncores 8\n"));
+    assert_eq!(rt; outcome.finish.answer, Answer::Done { all_zero: true });
+    Ok(())
+}
+
 /// A flat file of `lui x8, 1`, `sw x10, 0(x8)` and an exit with 0.
 const STORE: &[u8] =
     b"SLK1\0\0\0\0\0\0\0\0\x14\0\0\0\x37\x14\0\0\x23\x20\xa4\0\x93\x08\xd0\x05\x13\x05\0\0\x73\0\0\0";

@@ -1,0 +1,81 @@
+//! The numbers of a bus where they stop.
+ghost use Rattle.std.specs.Prelude.{◌≡◌};
+ghost use Rattle.slack_base.specs.Bounds.{settled};
+ghost use Rattle.slack_base.specs.Numbers.{numbers_of};
+
+use super::*;
+use slack_base::{Id, RawConfig, SegmentList};
+use std::test::Fail;
+
+/// Two cores, one bus and a memory of 512 lines.
+const TWO_CORES: RawConfig = RawConfig {
+    cores: 2,
+    base: 0,
+    memory: 8192,
+    sets: 16,
+    ways: 4,
+    buses: 1,
+    snoop: 2,
+    memory_delay: 10,
+    transfer: 3,
+    occupancy: 2,
+    slack: 8,
+    interval: 1000,
+    limit: 1000000,
+    quantum: 0,
+};
+
+/// The bus of two cores after very many asks, so many of them sent away.
+fn bus_after(
+    alloc: Global,
+    config: &Config,
+    free: u64,
+    asks: u64,
+    retries: u64,
+) -> Result<Bus, OutOfMemory>
+    requires { numbers_of config.now ≡ settled TWO_CORES }
+{
+    let segments = SegmentList::new(alloc);
+    let image = Image { entry: 0, segments };
+    let mut bus = Bus::new(alloc, 0, config, &image)?;
+    bus.free = free.min(TOP);
+    bus.asks = asks.min(TOP);
+    bus.retries = retries.min(TOP);
+    Ok(bus)
+}
+
+/// A core asks for line 256, to store to it, in cycle 1. Whether the bus may be asked.
+fn asks_to_own(bus: &mut Bus, core: u32, out: &mut PostList) -> Result<bool, OutOfMemory> {
+    let config = bus.config;
+    if config.buses == 0 || 256 % config.buses != bus.index || 256 >= config.memory / 16 {
+        return Ok(false);
+    }
+    if core >= config.cores {
+        return Ok(false);
+    }
+    let id = Id {
+        cycle: 1,
+        core,
+        number: 0,
+    };
+    bus.serve(&Ask::ReadOwn { id, line: 256 }, out)?;
+    Ok(true)
+}
+
+#[test]
+fn numbers_stop(rt: HostRuntime) -> Result<(), Fail> {
+    let config = Config::checked(TWO_CORES).expect(&rt, "two cores");
+    let mut bus = bus_after(rt.alloc(), &config, TOP - 3, TOP - 1, TOP)?;
+    let mut out = PostList::new(rt.alloc());
+    // Granted at TOP - 3, and the bus is free from TOP - 1 on; the last ask that is counted.
+    assert!(rt; asks_to_own(&mut bus, 0, &mut out)?);
+    assert_eq!(rt;
+        (bus.free(), bus.asks(), bus.retries()),
+        (TOP - 1, TOP, TOP)
+    );
+    // The line is on its way to core 0: core 1 is sent away, which isn't counted any more.
+    assert!(rt; asks_to_own(&mut bus, 1, &mut out)?);
+    assert_eq!(rt; (bus.free(), bus.asks(), bus.retries()), (TOP, TOP, TOP));
+    assert_eq!(rt; out.len(), 2);
+    Ok(())
+}
