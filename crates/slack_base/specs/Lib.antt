@@ -1,6 +1,11 @@
 pub mod Bounds
+pub mod Checks
+pub mod Growing
+pub mod HighestIds
 pub mod Images
+pub mod Inboxes
 pub mod Lending
+pub mod LittleEndian
 pub mod Messages
 pub mod Numbers
 pub mod Operations
