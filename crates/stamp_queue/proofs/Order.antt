@@ -10,7 +10,7 @@ use Rattle.std.proofs.lemmas.Bool.Decides.{nat_tests}
 use Rattle.slack_base.specs.declared.messages.Post.{Post}
 use Rattle.slack_base.specs.declared.stamps.Id.{Id}
 use Rattle.slack_base.specs.Stamps.{id_cmp}
-use Rattle.stamp_queue.specs.Inbox.{is_later}
+use Rattle.slack_base.specs.Inboxes.{is_later}
 
 id_cmp_total : IsTotalOrder id_cmp
 id_cmp_total =

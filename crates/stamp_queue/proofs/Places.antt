@@ -2,7 +2,8 @@
 use Rattle.std.proofs.Common.{◌≡◌, ℕ, ◌<◌, true, false, cond, List, [], ◌∷◌, Some, refl, sym, ◌∙◌, ap, arith, slice_get, subst}
 use Rattle.std.specs.List.{AllByRecursion}
 use Rattle.slack_base.specs.declared.messages.Post.{Post}
-use Rattle.stamp_queue.specs.Inbox.{is_later, with_post, IsInOrder, IsPutBetween}
+use Rattle.slack_base.specs.Inboxes.{is_later, with_post}
+use Rattle.stamp_queue.specs.Inbox.{IsInOrder, IsPutBetween}
 use Rattle.stamp_queue.proofs.Order.{no_later_than, no_later_back, due_no_later}
 
 -- each of the list

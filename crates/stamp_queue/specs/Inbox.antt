@@ -1,18 +1,8 @@
 -- The posts that wait for a core, in the order in which it applies them.
-use Rattle.std.specs.Prelude.{◌≡◌, ◌==◌, ◌&&◌, ◌||◌, Bool, true, false, List, [], ◌∷◌, ◌++◌, nat_lt, if◌then◌else◌}
+use Rattle.std.specs.Prelude.{◌≡◌, true, false, List, [], ◌∷◌, ◌++◌}
 use Rattle.std.specs.List.{AllByRecursion}
-use Rattle.std.specs.Ordering.{is_gt}
 use Rattle.slack_base.specs.declared.messages.Post.{Post}
-use Rattle.slack_base.specs.Stamps.{id_cmp}
-
--- the post comes later than the other, by (due, id)
-abbrev pub is_later : Post → Post → Bool
-is_later q p = nat_lt p.due q.due || ((p.due == q.due) && is_gt (id_cmp q.id p.id))
-
--- the inbox with one more post, behind those that are no later
-abbrev pub with_post : List Post → Post → List Post
-with_post [] p = p ∷ []
-with_post (q ∷ inbox) p = if is_later q p then p ∷ q ∷ inbox else q ∷ with_post inbox p
+use Rattle.slack_base.specs.Inboxes.{is_later}
 
 -- no post comes later than one that stands behind it
 abbrev pub IsInOrder : List Post → Type 0

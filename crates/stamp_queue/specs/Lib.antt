@@ -1,1 +1,3 @@
 pub mod Inbox
+pub mod Rings
+pub mod Laws

@@ -1,7 +1,8 @@
 //! The inbox of a core: the posts that wait for it, in the order in which it applies them.
 ghost use Rattle.std.specs.Prelude.{◌≡◌, ◌+◌, ◌<◌, ◌≤◌, ◌↔◌, [], ◌∷◌, ◌++◌, length, take, drop, false, IsTrue, IsNone, IfNone, IfSome, OnOk, OnErr};
 ghost use Rattle.std.specs.List.{AllByRecursion};
-ghost use Rattle.stamp_queue.specs.Inbox.{is_later, with_post, IsInOrder, IsPutBetween};
+ghost use Rattle.slack_base.specs.Inboxes.{is_later, with_post};
+ghost use Rattle.stamp_queue.specs.Inbox.{IsInOrder, IsPutBetween};
 
 use slack_base::{OutOfMemory, Post};
 use std::alloc::Global;
@@ -49,14 +50,6 @@ impl Inbox {
         ensures { IsTrue result ↔ (self.now ≡ []) }
     {
         self.posts.is_empty()
-    }
-
-    /// The posts that wait, in order.
-    pub fn as_slice(&self) -> &[Post]
-        ensures value { result.now ≡ self.now }
-        ensures in_order { IsInOrder self.now }
-    {
-        self.posts.as_slice()
     }
 
     /// Puts a post in its place, behind those of the same due and id that are there.

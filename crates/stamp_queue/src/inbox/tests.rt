@@ -69,13 +69,16 @@ fn the_order_of_fields(rt: HostRuntime) -> Result<(), Fail> {
         retry(7, (2, 0, 0)),
         retry(8, (0, 0, 0)),
     ];
-    let inbox = inbox_of(rt.alloc(), &sorted)?;
-    assert_eq!(rt; inbox.as_slice(), sorted.as_slice());
+    let mut inbox = inbox_of(rt.alloc(), &sorted)?;
     let mut turned = Inbox::new(rt.alloc());
     for post in sorted.iter().rev() {
         turned.put(*post)?;
     }
-    assert_eq!(rt; turned.as_slice(), sorted.as_slice());
+    for post in sorted {
+        assert_eq!(rt; inbox.take_due(u64::MAX), Some(post));
+        assert_eq!(rt; turned.take_due(u64::MAX), Some(post));
+    }
+    assert_eq!(rt; turned.take_due(u64::MAX), None);
     Ok(())
 }
 

@@ -1,5 +1,5 @@
 use Rattle.std.proofs.Common.{length, ◌-◌, ◌≡◌, ◌≤◌, ◌++◌, take, drop}
-use Rattle.stamp_queue.specs.Inbox.{with_post}
+use Rattle.slack_base.specs.Inboxes.{with_post}
 use Rattle.stamp_queue.proofs.inbox.place_of.Given as goal
 
 -- the post stands behind those so far

@@ -1,5 +1,6 @@
 use Rattle.std.proofs.Common.{◌≡◌, sym, subst, ◌∙◌}
-use Rattle.stamp_queue.specs.Inbox.{with_post, IsPutBetween}
+use Rattle.slack_base.specs.Inboxes.{with_post}
+use Rattle.stamp_queue.specs.Inbox.{IsPutBetween}
 use Rattle.stamp_queue.proofs.Places.{put_between, in_order-with_post}
 use Rattle.stamp_queue.proofs.inbox.Inbox.put.Goals as goal
 
