@@ -1,0 +1,17 @@
+pub mod Alone
+pub mod AloneLaw
+pub mod Cycles
+pub mod Drifts
+pub mod Laws
+pub mod Lockstep
+pub mod Numbered
+pub mod Proper
+pub mod Rules
+pub mod Runs
+pub mod Schedules
+pub mod Served
+pub mod Stops
+pub mod Trio
+pub mod TrioLaws
+pub mod Values
+pub mod Views

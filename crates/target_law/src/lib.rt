@@ -1,0 +1,18 @@
+//! Targets: what a machine of cores and channels is, its cycles, and its runs from checkpoint to checkpoint.
+#![tactic(auto)]
+
+pub mod cycles;
+pub mod laws;
+pub mod runs;
+pub mod states;
+pub mod targets;
+pub mod trio;
+
+pub use cycles::{cycle, run_to, stopped};
+pub use runs::run;
+pub use states::{Bounded, Drifted, State};
+pub use targets::Target;
+pub use trio::{Trio, TrioChan, TrioCore};
+
+#[cfg(test)]
+mod tests;

@@ -1,0 +1,103 @@
+//! What a machine of cores and channels brings along.
+ghost use Rattle.std.specs.Prelude.{◌≡◌, ◌==◌, ◌&&◌, ◌≤◌, ◌++◌, OnOk};
+ghost use Rattle.slack_base.specs.declared.bounds.TheConstants.{TOP};
+ghost use Rattle.slack_base.specs.Inboxes.{with_put};
+ghost use Rattle.target_law.specs.Cycles.{tick_of};
+ghost use Rattle.target_law.specs.Laws.{Laws};
+ghost use Rattle.target_law.specs.Proper.{IsProperAsk, IsPostTo, IsCore, IsChan, IsChanOf};
+ghost use Rattle.target_law.specs.Rules.{Rules, Owns};
+ghost use Rattle.target_law.specs.Values.{Values};
+
+use slack_base::{Ask, AskList, Id, OutOfMemory, Post, PostList};
+
+/// A machine of cores and channels. Contracts see it as rules over the values of a core and of a channel, of which
+/// some are the machine's own. Where a call wants memory that isn't there, nothing is said of its core or channel.
+pub trait Target {
+    type Core: Send + Drop;
+
+    type Chan: Send + Drop;
+
+    // all of a core's value but its inbox, and a channel's value
+    ghost Inner: { Type 0 };
+
+    ghost Channel: { Type 0 };
+
+    // what contracts see of a core and of a channel
+    ghost values: { Values Self.Core Self.Chan Inner Channel };
+
+    ghost rules: { Self → Rules Inner Channel };
+
+    // the values that are the machine's own
+    ghost owns: { Self → Owns Inner Channel };
+
+    /// How many cores there are.
+    fn cores(&self) -> u32
+        ensures { result ≡ (rules self.now).cores };
+
+    /// How many channels there are.
+    fn channels(&self) -> u32
+        ensures { result ≡ (rules self.now).channels };
+
+    /// The least number of cycles from an ask to a post that it causes.
+    fn lookahead(&self) -> u64
+        ensures { result ≡ (rules self.now).lookahead };
+
+    /// The number of the channel that an ask is of.
+    fn channel_of(&self, ask: &Ask) -> u32
+        ensures { result ≡ (rules self.now).channel_of ask.now };
+
+    /// The number of a core.
+    fn number_of(&self, core: &Self::Core) -> u32
+        ensures { result ≡ (rules self.now).core_number (values.core core.now).inner };
+
+    /// Whether an ask is one that the machine's cores may send.
+    fn ask_is_proper(&self, ask: &Ask) -> bool
+        ensures { result ≡ (rules self.now).is_proper_ask ask.now };
+
+    /// Whether a post is one that the machine's channels may send, and is addressed to this core.
+    fn post_is_proper(&self, core: u32, post: &Post) -> bool
+        ensures { result ≡ ((rules self.now).is_proper_post post.now && (post.now.to == core)) };
+
+    /// Whether a core has ended.
+    fn ended(&self, core: &Self::Core) -> bool
+        ensures { result ≡ (rules self.now).has_ended (values.core core.now).inner };
+
+    /// Puts a post into the core's inbox.
+    fn put(&self, core: &mut Self::Core, post: Post) -> Result<(), OutOfMemory>
+        requires { IsPostTo (rules self.now) ((rules self.now).core_number (values.core core.old).inner) post }
+        ensures { OnOk result (values.core core.new ≡ with_put post (values.core core.old)) };
+
+    /// One tick of a core. The asks that it sends are appended.
+    fn tick(&self, core: &mut Self::Core, cycle: u64, out: &mut AskList) -> Result<(), OutOfMemory>
+        requires clock { cycle ≤ TOP }
+        requires core { IsCore (rules self.now) (owns self.now) (values.core core.old) }
+        ensures core { OnOk result (values.core core.new ≡ (tick_of (rules self.now) cycle (values.core core.old)).0) }
+        ensures asks { OnOk result (out.new ≡ out.old ++ (tick_of (rules self.now) cycle (values.core core.old)).1) };
+
+    /// Serves an ask of this channel. The posts that it causes are appended.
+    fn serve(&self, chan: &mut Self::Chan, ask: &Ask, out: &mut PostList) -> Result<(), OutOfMemory>
+        requires ask { IsProperAsk (rules self.now) ask.now }
+        requires chan { IsChanOf (rules self.now) (owns self.now) ((rules self.now).channel_of ask.now) (values.chan chan.old) }
+        ensures chan { OnOk result (values.chan chan.new ≡ ((rules self.now).serve (values.chan chan.old) ask.now).0) }
+        ensures posts { OnOk result (out.new ≡ out.old ++ ((rules self.now).serve (values.chan chan.old) ask.now).1) };
+
+    /// The id that an ask of this channel would be out of order with if it were served now, if there is one. It takes no
+    /// memory.
+    fn clash(&self, chan: &Self::Chan, ask: &Ask) -> Option<Id>
+        requires ask { IsProperAsk (rules self.now) ask.now }
+        requires chan { IsChanOf (rules self.now) (owns self.now) ((rules self.now).channel_of ask.now) (values.chan chan.now) }
+        ensures { result ≡ (rules self.now).clash (values.chan chan.now) ask.now };
+
+    /// Closes the channel: what it noted to tell clashes is forgotten. It takes no memory.
+    fn close(&self, chan: &mut Self::Chan)
+        requires { IsChan (rules self.now) (owns self.now) (values.chan chan.old) }
+        ensures { values.chan chan.new ≡ (rules self.now).close (values.chan chan.old) };
+
+    /// A cycle from which on the core touched nothing of what a post to it is about. It takes no memory.
+    fn touched(&self, core: &Self::Core, post: &Post) -> u64
+        requires { IsPostTo (rules self.now) ((rules self.now).core_number (values.core core.now).inner) post.now }
+        ensures { result ≡ (rules self.now).touched (values.core core.now).inner post.now };
+
+    // what every target keeps to
+    ghost laws: { (target : Self) → Laws (rules target) (owns target) };
+}
