@@ -1,0 +1,4 @@
+pub mod Complete
+pub mod Noting
+pub mod Scan
+pub mod Watching
