@@ -1,0 +1,14 @@
+//! Drifts of given interleavings.
+#![tactic(auto)]
+
+pub mod drives;
+pub mod ends;
+pub mod finishing;
+pub mod lanes;
+pub mod laws;
+pub mod worlds;
+
+pub use drives::drive;
+
+#[cfg(test)]
+mod tests;
