@@ -1,0 +1,4 @@
+pub mod Lists
+pub mod Seated
+pub mod Lawful
+pub mod Allowed

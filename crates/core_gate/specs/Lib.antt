@@ -1,0 +1,4 @@
+pub mod Pacing
+pub mod Steps
+pub mod Laws
+pub mod Seats
