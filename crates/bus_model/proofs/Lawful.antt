@@ -4,7 +4,6 @@ use Rattle.std.specs.List.{All}
 use Rattle.std.proofs.lemmas.List.{length-set}
 use Rattle.std.proofs.lemmas.List.Elements.{All-nil, All-map, All-set}
 use Rattle.std.proofs.lemmas.Option.{slice_get_within, get_or_from_slice_get}
-use Rattle.slack_base.specs.declared.limits.RawConfig.{RawConfig}
 use Rattle.slack_base.specs.declared.messages.Ask.{Ask}
 use Rattle.slack_base.specs.declared.messages.Post.{Post}
 use Rattle.slack_base.specs.Messages.{id_of, line_of}
@@ -14,19 +13,20 @@ use Rattle.status_map.specs.Entries.{NamesBelow}
 use Rattle.status_map.specs.Table.{row, owns, post_of, serve}
 use Rattle.status_map.specs.Laws.{AreAtLeast}
 use Rattle.status_map.proofs.Lawful.{all_lawful}
+use Rattle.bus_model.specs.Settings.{SettingValue}
 use Rattle.bus_model.specs.Channels.{BusValue, AsBus, AsConsole, IsSoundBus, entry_of}
-use Rattle.bus_model.specs.Serving.{delays_of, grant_of, granted, on_entry, on_line, bus_served, served}
+use Rattle.bus_model.specs.Serving.{grant_of, granted, on_entry, on_line, noted, bus_served, served}
 use Rattle.bus_model.specs.Laws.{IsSlowMemory, IsLawful, AllLawful, AllMayServe, lookahead_of}
 use Rattle.bus_model.specs.Asks.{IsAskOf}
 
 abbrev IsLawfulBus : BusValue → Ask → BusValue × List Post → Type 0
-IsLawfulBus b ask out = IsLawful b.config b.number ask (AsBus b) (AsBus out.0) out.1
+IsLawfulBus b ask out = IsLawful b.setting ask (AsBus b) (AsBus out.0) out.1
 
 -- nothing was asked of the bus
 unchanged : (b : BusValue) (ask : Ask) → IsSoundBus b → IsLawfulBus b ask (b, [])
 unchanged b ask s = record {
   sound = s;
-  same = (refl, refl);
+  same = refl;
   free = omega arith;
   posts = All-nil _;
   once = λ i j d low high. absurd (omega arith);
@@ -43,63 +43,67 @@ carried d grant ask line e h =
     (λ k x lt. line-kept (line_of ask) line h)
 
 -- the entry of a line names cores of the machine
-entry-named : (b : BusValue) (line : ℕ) (e : EntryView) → IsSoundBus b → entry_of b line ≡ Some e → NamesBelow b.config.cores e.kind
+entry-named : (b : BusValue) (line : ℕ) (e : EntryView) → IsSoundBus b → entry_of b line ≡ Some e → NamesBelow b.setting.cores e.kind
 entry-named b line e s at_line =
-    let place = line / b.config.buses in
-    subst (λ (v : EntryView). NamesBelow b.config.cores v.kind) (get_or_from_slice_get b.entries place e e at_line)
+    let place = line / b.setting.buses in
+    subst (λ (v : EntryView). NamesBelow b.setting.cores v.kind) (get_or_from_slice_get b.entries place e e at_line)
     (s.named place e (slice_get_within b.entries place e at_line))
 
-pub granted-lawful : (b : BusValue) (ask : Ask) (line : ℕ) (e : EntryView) → IsSlowMemory b.config → IsSoundBus b → (id_of ask).core < b.config.cores
-    → line_of ask ≡ Some line → entry_of b line ≡ Some e → IsLawful b.config b.number ask (AsBus b) (AsBus (granted b ask line e).0) (granted b ask line e).1
+pub granted-lawful : (b : BusValue) (ask : Ask) (line : ℕ) (e : EntryView) → IsSlowMemory b.setting.delays → IsSoundBus b → (id_of ask).core < b.setting.cores
+    → line_of ask ≡ Some line → entry_of b line ≡ Some e → IsLawful b.setting ask (AsBus b) (AsBus (granted b ask line e).0) (granted b ask line e).1
 unfolding granted
 granted-lawful b ask line e slow s low of_line at_line =
     let grant = grant_of b ask in
-    let least = lookahead_of b.config in
-    let slowest : AreAtLeast least (delays_of b.config) = (omega arith, omega arith, omega arith) in
-    let is = all_lawful b.config.cores least grant (delays_of b.config) ask e slowest low (entry-named b line e s at_line) in
+    let least = lookahead_of b.setting.delays in
+    let slowest : AreAtLeast least b.setting.delays = (omega arith, omega arith, omega arith) in
+    let is = all_lawful b.setting.cores least grant b.setting.delays ask e slowest low (entry-named b line e s at_line) in
     record {
       sound = record {
         number = s.number;
-        count = length-set b.entries (line / b.config.buses) _ ∙ s.count;
+        count = length-set b.entries (line / b.setting.buses) _ ∙ s.count;
         free = omega arith;
         asks = omega arith;
         retries = omega arith;
-        named = All-set (λ (v : EntryView). NamesBelow b.config.cores v.kind) b.entries (line / b.config.buses) _ is.named s.named;
+        named = All-set (λ (v : EntryView). NamesBelow b.setting.cores v.kind) b.entries (line / b.setting.buses) _ is.named s.named;
       };
-      same = (refl, refl);
+      same = refl;
       free = omega (arith, s.free);
       posts = λ k d lt. record {
         to = is.received k d lt;
         id = is.carried k d lt;
-        line = carried (delays_of b.config) grant ask line e of_line k d lt;
+        line = carried b.setting.delays grant ask line e of_line k d lt;
         due = let late = is.due k d lt in omega arith;
       };
       once = is.once;
     }
 
-on-entry : (b : BusValue) (ask : Ask) (line : ℕ) → IsSlowMemory b.config → IsSoundBus b → (id_of ask).core < b.config.cores
+on-entry : (b : BusValue) (ask : Ask) (line : ℕ) → IsSlowMemory b.setting.delays → IsSoundBus b → (id_of ask).core < b.setting.cores
     → line_of ask ≡ Some line → (o : Option EntryView) → entry_of b line ≡ o → IsLawfulBus b ask (on_entry b ask line o)
 on-entry b ask line slow s low of_line None at_line = unchanged b ask s
 on-entry b ask line slow s low of_line (Some e) at_line = granted-lawful b ask line e slow s low of_line at_line
 
-on-line : (b : BusValue) (ask : Ask) → IsSlowMemory b.config → IsSoundBus b → (id_of ask).core < b.config.cores
+on-line : (b : BusValue) (ask : Ask) → IsSlowMemory b.setting.delays → IsSoundBus b → (id_of ask).core < b.setting.cores
     → (o : Option ℕ) → line_of ask ≡ o → IsLawfulBus b ask (on_line b ask o)
 on-line b ask slow s low None of_line = unchanged b ask s
 on-line b ask slow s low (Some line) of_line = on-entry b ask line slow s low of_line (entry_of b line) refl
 
-bus-lawful : (b : BusValue) (ask : Ask) → IsSlowMemory b.config → IsSoundBus b → (id_of ask).core < b.config.cores → IsLawfulBus b ask (bus_served b ask)
+-- the greatest id plays no part
+bus-lawful : (b : BusValue) (ask : Ask) → IsSlowMemory b.setting.delays → IsSoundBus b → (id_of ask).core < b.setting.cores → IsLawfulBus b ask (bus_served b ask)
 unfolding bus_served
-bus-lawful b ask slow s low = on-line b ask slow s low (line_of ask) refl
+bus-lawful b ask slow s low =
+    let noting : BusValue = record b { highest = noted b.highest ask } in
+    let sound : IsSoundBus noting = record { number = s.number; count = s.count; free = s.free; asks = s.asks; retries = s.retries; named = s.named } in
+    let is = on-line noting ask slow sound low (line_of ask) refl in
+    record { sound = is.sound; same = is.same; free = is.free; posts = is.posts; once = is.once }
 
 pub channels-lawful : AllLawful
 unfolding served
-channels-lawful config number (AsBus b) ask slow s same of =
+channels-lawful s (AsBus b) ask slow sound same of =
     let out = bus_served b ask in
-    let core : (id_of ask).core < b.config.cores = subst (λ (c : RawConfig). (id_of ask).core < c.cores) (sym same.0) of.proper.core in
-    let here = bus-lawful b ask (subst IsSlowMemory (sym same.0) slow) s core in
-    subst (λ (n : ℕ). IsLawful config n ask (AsBus b) (AsBus out.0) out.1) same.1
-    (subst (λ (c : RawConfig). IsLawful c b.number ask (AsBus b) (AsBus out.0) out.1) same.0 here)
-channels-lawful config number (AsConsole bytes) ask slow s same of = record {
+    let core : (id_of ask).core < b.setting.cores = subst (λ (t : SettingValue). (id_of ask).core < t.cores) (sym same) of.proper.core in
+    let here = bus-lawful b ask (subst (λ (t : SettingValue). IsSlowMemory t.delays) (sym same) slow) sound core in
+    subst (λ (t : SettingValue). IsLawful t ask (AsBus b) (AsBus out.0) out.1) same here
+channels-lawful s (AsConsole c) ask slow sound same of = record {
   sound = tt;
   same = same;
   free = omega arith;
@@ -108,6 +112,5 @@ channels-lawful config number (AsConsole bytes) ask slow s same of = record {
 }
 
 pub may-serve : AllMayServe
-may-serve config number (AsBus b) ask same of =
-    subst (λ (n : ℕ). IsAskOf b.config n ask) (sym same.1) (subst (λ (c : RawConfig). IsAskOf c number ask) (sym same.0) of)
-may-serve config number (AsConsole bytes) ask same of = tt
+may-serve s (AsBus b) ask same of = subst (λ (t : SettingValue). IsAskOf t ask) (sym same) of
+may-serve s (AsConsole c) ask same of = tt

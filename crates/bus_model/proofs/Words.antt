@@ -2,8 +2,8 @@
 use Rattle.std.proofs.Common.{◌≡◌, ◌∙◌, ℕ, ◌+◌, ◌<◌, ◌≤◌, List, get_or, refl, ap, arith}
 use Rattle.std.proofs.lemmas.List.FromFn.{get_or-map-range_with_len}
 use Rattle.slack_base.specs.declared.images.Segment.{Segment}
-use Rattle.memory_image.specs.Memory.{byte_at, bytes_from}
-use Rattle.bus_model.specs.Starting.{word_at, words_at}
+use Rattle.slack_base.specs.LittleEndian.{word_at, words_at}
+use Rattle.first_memory.specs.Memory.{byte_at, bytes_from}
 
 -- the bytes of one word are equal
 word-same : (f g : ℕ → ℕ) (a b : ℕ) → f a ≡ g b → f (a + 1) ≡ g (b + 1) → f (a + 2) ≡ g (b + 2) → f (a + 3) ≡ g (b + 3) → word_at f a ≡ word_at g b

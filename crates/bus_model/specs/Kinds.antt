@@ -5,4 +5,4 @@ use Rattle.bus_model.specs.Channels.{ChannelValue, AsBus, AsConsole}
 
 abbrev pub value_of : Kind → ChannelValue
 value_of (BusKind b) = AsBus b
-value_of (ConsoleKind bytes) = AsConsole bytes.items
+value_of (ConsoleKind c) = AsConsole c

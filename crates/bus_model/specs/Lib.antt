@@ -1,7 +1,10 @@
 pub mod Asks
 pub mod Channels
+pub mod Closing
+pub mod ClosingLaws
 pub mod Kinds
 pub mod Laws
 pub mod Serving
+pub mod Settings
 pub mod Starting
 pub mod Views

@@ -1,27 +1,23 @@
 //! A bus: when it is granted, and the status map of its lines.
-ghost use Rattle.std.specs.Prelude.{◌≡◌, ◌+◌, ◌/◌, ◌^◌, ◌<◌, ◌≤◌, ◌++◌, [], length, Some, IfOk, OnOk};
-ghost use Rattle.slack_base.specs.Numbers.{numbers_of};
-ghost use Rattle.bus_model.specs.Serving.{delays_of};
+ghost use Rattle.std.specs.Prelude.{◌≡◌, ◌+◌, ◌/◌, ◌<◌, ◌≤◌, ◌++◌, [], length, None, Some, IfOk, OnOk};
 
-use crate::entries::{retries_in, send_all, serve};
+use crate::posts::{retries_in, send_all};
+use crate::settings::Setting;
 use crate::starting::first_entries;
-use slack_base::{Ask, Config, Image, OutOfMemory, PostList};
-use status_map::{Delays, Entry, EntryView, PostBatch};
+use slack_base::{Ask, Config, HighestId, Id, Image, OutOfMemory, PostList, capped, raised};
+use status_map::{Entry, EntryView, PostBatch};
 use std::alloc::Global;
 use std::marker::Model;
-
-/// Where a bus's cycle and its counts stop: 2^62, so that no sum overflows.
-const TOP: u64 = 1 << 62;
 
 /// A bus of a machine.
 #[derive(Debug, Drop)]
 pub(crate) struct Bus {
-    index: u32,
-    config: Config,
+    setting: Setting,
     free: u64,
     asks: u64,
     retries: u64,
     entries: Vec<Entry>,
+    highest: HighestId,
 }
 
 impl Model for Bus {
@@ -37,13 +33,14 @@ impl Model for Bus {
 }
 
 impl Bus {
+    ghost use Rattle.slack_base.specs.HighestIds.{later_of};
     ghost use Rattle.slack_base.specs.Images.{Fits};
-    ghost use Rattle.slack_base.specs.Numbers.{numbers_of};
     ghost use Rattle.slack_base.specs.Messages.{line_of};
-    ghost use Rattle.bus_model.specs.Channels.{entry_of, IsSoundBus};
+    ghost use Rattle.slack_base.specs.Numbers.{numbers_of};
+    ghost use Rattle.bus_model.specs.Channels.{entry_of, found_on, IsSoundBus};
     ghost use Rattle.bus_model.specs.Asks.{IsAskOf, IsLineOf};
     ghost use Rattle.bus_model.specs.Starting.{first_bus};
-    ghost use Rattle.bus_model.specs.Serving.{delays_of, bus_served};
+    ghost use Rattle.bus_model.specs.Serving.{bus_served, on_line};
 
     /// The bus of a number, before the first cycle.
     pub(crate) fn new(
@@ -59,22 +56,23 @@ impl Bus {
     {
         let entries = first_entries(alloc, index, config, image)?;
         Ok(Bus {
-            index,
-            config: *config,
+            setting: Setting::of(config, index),
             free: 0,
             asks: 0,
             retries: 0,
             entries,
+            highest: HighestId::none(),
         })
     }
 
     /// Serves an ask. The posts are appended.
     #[tactic(auto, unfolding(crate::specs::Serving::bus_served))]
     pub(crate) fn serve(&mut self, ask: &Ask, out: &mut PostList) -> Result<(), OutOfMemory>
-        requires { IsAskOf self.old.config self.old.number ask.now }
+        requires { IsAskOf self.old.setting ask.now }
         ensures bus { OnOk result (self.new ≡ (bus_served self.old ask.now).0) }
         ensures posts { OnOk result (out.new ≡ out.old ++ (bus_served self.old ask.now).1) }
     {
+        self.note(ask.id());
         match ask.line() {
             Some(line) => {
                 let posts = self.grant(ask, line);
@@ -84,39 +82,71 @@ impl Bus {
         }
     }
 
+    /// The id of an ask counts for the greatest one.
+    fn note(&mut self, id: Id)
+        ensures { self.new ≡ record self.old { highest = Some (later_of self.old.highest id) } }
+    {
+        self.highest.note(id);
+    }
+
     /// Grants the bus to an ask for a line of it, and answers the posts.
     fn grant(&mut self, ask: &Ask, line: u32) -> PostBatch
-        requires ask { IsAskOf self.old.config self.old.number ask.now }
+        requires ask { IsAskOf self.old.setting ask.now }
         requires line { line_of ask.now ≡ Some line }
-        ensures bus { self.new ≡ (bus_served self.old ask.now).0 }
-        ensures posts { result ≡ (bus_served self.old ask.now).1 }
+        ensures bus { self.new ≡ (on_line self.old ask.now (Some line)).0 }
+        ensures posts { result ≡ (on_line self.old ask.now (Some line)).1 }
     {
+        let setting = self.setting;
         let grant = ask.id().cycle.max(self.free);
-        let delays = delays(&self.config);
-        let place = (line / self.config.buses) as usize;
+        let place = (line / setting.buses) as usize;
         let mut out = PostBatch::new();
         let entry = &mut self.entries[place];
-        serve(entry, ask, grant, &delays, &mut out);
-        self.free = (grant + u64::from(self.config.occupancy)).min(TOP);
-        self.asks = (self.asks + 1).min(TOP);
-        self.retries = (self.retries + retries_in(out.posts())).min(TOP);
+        entry.serve(ask, grant, &setting.delays, &mut out);
+        self.free = capped(grant + setting.occupancy);
+        self.asks = raised(self.asks);
+        self.retries = capped(self.retries + retries_in(out.posts()));
         out
+    }
+
+    /// The greatest id that the bus served since it was closed.
+    pub(crate) fn highest(&self) -> HighestId
+        ensures { result ≡ self.now.highest }
+    {
+        self.highest
+    }
+
+    /// Forgets the greatest id.
+    pub(crate) fn close(&mut self)
+        ensures { self.new ≡ record self.old { highest = None } }
+    {
+        self.highest.reset();
     }
 
     /// The entry of a line of the bus.
     pub(crate) fn entry(&self, line: u32) -> EntryView
-        requires { IsLineOf self.now.config self.now.number line }
+        requires { IsLineOf self.now.setting line }
         ensures { entry_of self.now line ≡ Some result }
     {
-        let place = (line / self.config.buses) as usize;
+        let place = (line / self.setting.buses) as usize;
         self.entries[place].view()
+    }
+
+    /// The entry of a line, where the line is one of the bus.
+    pub(crate) fn find_entry(&self, line: u32) -> Option<EntryView>
+        ensures { result ≡ found_on self.now line }
+    {
+        if line % self.setting.buses != self.setting.number {
+            return None;
+        }
+        let place = (line / self.setting.buses) as usize;
+        self.entries.get(place).map(|entry| entry.view())
     }
 
     /// The bus's number.
     pub(crate) fn number(&self) -> u32
-        ensures { result ≡ self.now.number }
+        ensures { result ≡ self.now.setting.number }
     {
-        self.index
+        self.setting.number
     }
 
     /// The cycle from which the bus is free.
@@ -144,18 +174,7 @@ impl Bus {
     pub(crate) fn lines(&self) -> u32
         ensures { result ≡ length self.now.entries }
     {
-        self.config.memory / 16 / self.config.buses
-    }
-}
-
-/// The delays of the posts of a bus.
-fn delays(config: &Config) -> Delays
-    ensures { result ≡ delays_of (numbers_of config.now) }
-{
-    Delays {
-        snoop: u64::from(config.snoop),
-        memory: u64::from(config.memory_delay),
-        transfer: u64::from(config.transfer),
+        self.setting.lines / self.setting.buses
     }
 }
 

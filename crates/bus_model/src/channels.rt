@@ -1,10 +1,10 @@
 //! A channel: a bus or the console.
-ghost use Rattle.std.specs.Prelude.{◌≡◌, ◌+◌, ◌<◌, ◌≤◌, ◌++◌, [], Some, IfOk, OnOk};
+ghost use Rattle.std.specs.Prelude.{◌≡◌, ◌+◌, ◌<◌, ◌≤◌, ◌++◌, [], None, Some, IfOk, OnOk};
 ghost use Rattle.bus_model.specs.Asks.{channel_of};
-ghost use Rattle.bus_model.specs.Serving.{put_on};
 
 use crate::buses::Bus;
-use slack_base::{Ask, Config, Image, OutOfMemory, PostList};
+use crate::consoles::Console;
+use slack_base::{Ask, Config, HighestId, Id, Image, OutOfMemory, PostList};
 use status_map::EntryView;
 use std::alloc::Global;
 use std::marker::Model;
@@ -18,7 +18,7 @@ pub struct Channel {
 #[derive(Debug, Drop)]
 enum Kind {
     Bus(Bus),
-    Console(Vec<u8>),
+    Console(Console),
 }
 
 impl Model for Channel {
@@ -46,8 +46,10 @@ pub fn channel_of(ask: &Ask, buses: u32) -> u32
 impl Channel {
     ghost use Rattle.slack_base.specs.Images.{Fits};
     ghost use Rattle.slack_base.specs.Numbers.{numbers_of};
-    ghost use Rattle.bus_model.specs.Channels.{AsBus, AsConsole, setting_of, entry_at, number_of, free_of, asks_of, retries_of, count_of, bytes_of, IsSound};
+    ghost use Rattle.bus_model.specs.Channels.{AsBus, AsConsole, bus_setting, highest_of, entry_at, found_entry, number_of, free_of, asks_of, retries_of, count_of, bytes_of, IsSound};
     ghost use Rattle.bus_model.specs.Asks.{MayServe, HasLine};
+    ghost use Rattle.bus_model.specs.Closing.{clash, closed};
+    ghost use Rattle.bus_model.specs.Settings.{setting_of};
     ghost use Rattle.bus_model.specs.Starting.{first_bus};
     ghost use Rattle.bus_model.specs.Serving.{served};
 
@@ -62,7 +64,7 @@ impl Channel {
         requires image { Fits config.now.base config.now.memory image.now }
         ensures value { IfOk result (λ channel. channel ≡ AsBus (first_bus (numbers_of config.now) image.now index)) }
         ensures sound { IfOk result (λ channel. IsSound channel) }
-        ensures setting { IfOk result (λ channel. setting_of channel ≡ Some (index, numbers_of config.now)) }
+        ensures setting { IfOk result (λ channel. bus_setting channel ≡ Some (setting_of (numbers_of config.now) index)) }
     {
         let bus = Bus::new(alloc, index, config, image)?;
         Ok(Channel {
@@ -72,10 +74,10 @@ impl Channel {
 
     /// The console with no bytes. It takes no memory.
     pub fn console(alloc: Global) -> Channel
-        ensures { result ≡ AsConsole [] }
+        ensures { result ≡ AsConsole (record { bytes = []; highest = None }) }
     {
         Channel {
-            kind: Kind::Console(Vec::new(alloc)),
+            kind: Kind::Console(Console::new(alloc)),
         }
     }
 
@@ -84,12 +86,41 @@ impl Channel {
     pub fn serve(&mut self, ask: &Ask, out: &mut PostList) -> Result<(), OutOfMemory>
         requires { MayServe self.old ask.now }
         ensures channel { OnOk result (self.new ≡ (served self.old ask.now).0) }
-        ensures setting { OnOk result (setting_of self.new ≡ setting_of self.old) }
+        ensures setting { OnOk result (bus_setting self.new ≡ bus_setting self.old) }
         ensures posts { OnOk result (out.new ≡ out.old ++ (served self.old ask.now).1) }
     {
         match &mut self.kind {
             Kind::Bus(bus) => bus.serve(ask, out),
-            Kind::Console(bytes) => put_on(bytes, ask),
+            Kind::Console(console) => console.serve(ask),
+        }
+    }
+
+    /// The greatest id that the channel served since it was closed, where it is above the ask's. It takes no memory.
+    pub fn clash(&self, ask: &Ask) -> Option<Id>
+        requires { MayServe self.now ask.now }
+        ensures { result ≡ clash self.now ask.now }
+    {
+        self.highest().above(ask.id())
+    }
+
+    /// The greatest id that the channel served since it was closed.
+    fn highest(&self) -> HighestId
+        ensures { result ≡ highest_of self.now }
+    {
+        match &self.kind {
+            Kind::Bus(bus) => bus.highest(),
+            Kind::Console(console) => console.highest(),
+        }
+    }
+
+    /// Forgets the greatest id, and changes nothing else. It takes no memory.
+    pub fn close(&mut self)
+        ensures channel { self.new ≡ closed self.old }
+        ensures setting { bus_setting self.new ≡ bus_setting self.old }
+    {
+        match &mut self.kind {
+            Kind::Bus(bus) => bus.close(),
+            Kind::Console(console) => console.close(),
         }
     }
 
@@ -101,6 +132,16 @@ impl Channel {
         match &self.kind {
             Kind::Bus(bus) => bus.entry(line),
             Kind::Console(_) => unreachable!(),
+        }
+    }
+
+    /// The entry of a line: none where the channel is no bus, or the line isn't one of it.
+    pub fn find_entry(&self, line: u32) -> Option<EntryView>
+        ensures { result ≡ found_entry self.now line }
+    {
+        match &self.kind {
+            Kind::Bus(bus) => bus.find_entry(line),
+            Kind::Console(_) => None,
         }
     }
 
@@ -150,7 +191,7 @@ impl Channel {
     {
         match &self.kind {
             Kind::Bus(_) => &[],
-            Kind::Console(bytes) => bytes.as_slice(),
+            Kind::Console(console) => console.bytes(),
         }
     }
 
@@ -163,16 +204,6 @@ impl Channel {
             Kind::Console(_) => 0,
         }
     }
-}
-
-/// Appends the byte of a Put.
-fn put_on(bytes: &mut Vec<u8>, ask: &Ask) -> Result<(), OutOfMemory>
-    ensures { OnOk result (bytes.new.items ≡ put_on bytes.old.items ask.now) }
-{
-    if let Ask::Put { byte, .. } = *ask {
-        bytes.push(byte)?;
-    }
-    Ok(())
 }
 
 #[cfg(test)]

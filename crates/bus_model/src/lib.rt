@@ -3,8 +3,10 @@
 
 mod buses;
 pub mod channels;
-mod entries;
+mod consoles;
 pub mod laws;
+mod posts;
+mod settings;
 mod starting;
 
 pub use channels::{Channel, channel_of};

@@ -1,12 +1,11 @@
 //! The entries of a bus before the first cycle.
-ghost use Rattle.std.specs.Prelude.{◌≡◌, ◌+◌, ◌*◌, ◌/◌, ◌<◌, ◌≤◌, map, length, slice_index, IfOk};
-ghost use Rattle.std.specs.List.{range_with_len};
+ghost use Rattle.std.specs.Prelude.{◌≡◌, ◌+◌, ◌*◌, ◌<◌, ◌≤◌, length, slice_index, IfOk};
 ghost use Rattle.slack_base.specs.Images.{Fits};
+ghost use Rattle.slack_base.specs.LittleEndian.{word_at, words_at};
 ghost use Rattle.slack_base.specs.Numbers.{numbers_of};
-ghost use Rattle.bus_model.specs.Channels.{lines_of};
-ghost use Rattle.bus_model.specs.Starting.{first_entry, idle, word_at, words_at};
+ghost use Rattle.bus_model.specs.Starting.{first_entries, idle};
 
-use memory_image::loaded_bytes;
+use first_memory::loaded_bytes;
 use slack_base::{Config, Image, OutOfMemory, Words};
 use status_map::Entry;
 use std::alloc::Global;
@@ -47,7 +46,7 @@ pub(crate) fn first_entries(
 ) -> Result<Vec<Entry>, OutOfMemory>
     requires bus { index < config.now.buses }
     requires image { Fits config.now.base config.now.memory image.now }
-    ensures { IfOk result (λ entries. entries.items ≡ map (λ place. first_entry (numbers_of config.now) image.now (index + config.now.buses * place)) (range_with_len 0 (lines_of (numbers_of config.now) / config.now.buses))) }
+    ensures { IfOk result (λ entries. entries.items ≡ first_entries (numbers_of config.now) image.now index) }
 {
     let bytes = loaded_bytes(alloc, image, config.base, config.memory)?;
     let count = config.memory / 16 / config.buses;

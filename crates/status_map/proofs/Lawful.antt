@@ -1,11 +1,12 @@
 -- The posts of each row of the table are lawful.
-use Rattle.std.proofs.Common.{◌≡◌, ◌≢◌, ℕ, zero, suc, ◌+◌, ◌^◌, ◌<◌, ◌≤◌, Bool, true, false, List, [], ◌∷◌, ◌++◌, Some, None, get_or, slice_index, map, nat_lt, unwrap_or, refl, arith}
+use Rattle.std.proofs.Common.{◌≡◌, ◌≢◌, ℕ, suc, ◌+◌, ◌^◌, ◌<◌, ◌≤◌, Bool, true, false, List, [], ◌∷◌, ◌++◌, Some, None, get_or, map, nat_lt, unwrap_or, refl, arith}
 use Rattle.std.specs.List.{All, AllPairs}
 use Rattle.std.proofs.lemmas.Bool.{and_parts, not-true, eqb-false}
 use Rattle.std.proofs.lemmas.List.Elements.{All-nil, All-cons, All-append, All-map, All-weaker, filter_passes}
-use Rattle.std.proofs.lemmas.List.Kept.{AllPairs-filter, AllPairs-cons, AllPairs-from_increasing}
+use Rattle.std.proofs.lemmas.List.Kept.{AllPairs-filter, AllPairs-cons}
 use Rattle.std.proofs.lemmas.List.Quantifiers.{all_pairs_push}
 use Rattle.std.proofs.Math.Nat.{one-le-pow}
+use Rattle.slack_base.specs.declared.bounds.TheConstants.{MOST_CORES}
 use Rattle.slack_base.specs.declared.messages.Words.{Words}
 use Rattle.slack_base.specs.declared.messages.Ask.{Ask}
 use Rattle.slack_base.specs.declared.messages.Ask.TheVariants.{Read, ReadOwn, WriteBack, Flush}
@@ -14,10 +15,11 @@ use Rattle.slack_base.specs.Messages.{id_of, line_of}
 use Rattle.status_map.specs.declared.views.EntryKind.{EntryKind}
 use Rattle.status_map.specs.declared.views.EntryKind.TheVariants.{Idle, Shared, Owned, Moving}
 use Rattle.status_map.specs.declared.views.Delays.{Delays}
-use Rattle.status_map.specs.Cores.{is_other, others, only}
+use Rattle.status_map.specs.Cores.{all_cores, is_other, others, only}
 use Rattle.status_map.specs.Entries.{NamesBelow}
 use Rattle.status_map.specs.Table.{Sending, send, Outcome, outcome, row, owns, post_of, serve}
 use Rattle.status_map.specs.Laws.{AreAtLeast, AllLawful}
+use Rattle.status_map.proofs.Others.{core_at, count_of_cores}
 use Rattle.status_map.proofs.Sets.{with_core-below, below_from_holds}
 
 -- what the row sends and names: the same of the posts follows
@@ -45,7 +47,7 @@ only-below n core low = with_core-below n 0 core (one-le-pow n 2 (omega arith)) 
 -- the cores of a set but for the one that asks
 module _ (n cores asking : ℕ) (few : cores < 2 ^ n) where
   others_pass : All (λ k. is_other cores asking k ≡ true) (others cores asking)
-  others_pass = filter_passes (is_other cores asking) (0 ∷ 1 ∷ 2 ∷ 3 ∷ 4 ∷ 5 ∷ 6 ∷ 7 ∷ [])
+  others_pass = filter_passes (is_other cores asking) all_cores
 
   others_below : All (λ k. k < n) (others cores asking)
   others_below = All-weaker (λ k. is_other cores asking k ≡ true) (λ k. k < n) (λ k h. below_from_holds n cores k few (and_parts _ _ h).1) _ others_pass
@@ -53,19 +55,11 @@ module _ (n cores asking : ℕ) (few : cores < 2 ^ n) where
   others_differ : All (λ k. k ≢ asking) (others cores asking)
   others_differ = All-weaker (λ k. is_other cores asking k ≡ true) (λ k. k ≢ asking) (λ k h. eqb-false k asking (not-true _ (and_parts _ _ h).0)) _ others_pass
 
-rising : (k : ℕ) → k + 1 < 8 → slice_index (0 ∷ 1 ∷ 2 ∷ 3 ∷ 4 ∷ 5 ∷ 6 ∷ 7 ∷ []) k < slice_index (0 ∷ 1 ∷ 2 ∷ 3 ∷ 4 ∷ 5 ∷ 6 ∷ 7 ∷ []) (k + 1)
-rising zero h = omega arith
-rising (suc zero) h = omega arith
-rising (suc (suc zero)) h = omega arith
-rising (suc (suc (suc zero))) h = omega arith
-rising (suc (suc (suc (suc zero)))) h = omega arith
-rising (suc (suc (suc (suc (suc zero))))) h = omega arith
-rising (suc (suc (suc (suc (suc (suc zero)))))) h = omega arith
-rising (suc (suc (suc (suc (suc (suc (suc k))))))) h = absurd (omega arith)
-
-all_differ : AllPairs {X = ℕ} (λ j k. j ≢ k) (0 ∷ 1 ∷ 2 ∷ 3 ∷ 4 ∷ 5 ∷ 6 ∷ 7 ∷ [])
+all_differ : AllPairs {X = ℕ} (λ j k. j ≢ k) all_cores
 all_differ i j d low high same =
-    let below = AllPairs-from_increasing (0 ∷ 1 ∷ 2 ∷ 3 ∷ 4 ∷ 5 ∷ 6 ∷ 7 ∷ []) rising i j d low high in
+    let below : j < MOST_CORES = omega (arith, count_of_cores) in
+    let first = core_at i d (omega arith) in
+    let second = core_at j d below in
     omega arith
 
 -- what holds of each two elements holds of what is made of them
@@ -87,7 +81,7 @@ taken n least d m asking cores slow low few =
       received = All-append (λ t. t.core < n) (map f them) (last ∷ []) (All-map (λ t. t.core < n) f them (others_below n cores asking few)) (All-cons (λ t. t.core < n) last [] low (All-nil _));
       delayed = All-append (λ t. least ≤ t.delay) (map f them) (last ∷ []) (All-map (λ t. least ≤ t.delay) f them (λ k e h. slow.0)) (All-cons (λ t. least ≤ t.delay) last [] slow.1 (All-nil _));
       once = all_pairs_push (λ t u. t.core ≢ u.core) (map f them) last
-          (pairs_map f (λ j k. j ≢ k) (λ t u. t.core ≢ u.core) (λ j k h. h) them (AllPairs-filter (λ j k. j ≢ k) (is_other cores asking) (0 ∷ 1 ∷ 2 ∷ 3 ∷ 4 ∷ 5 ∷ 6 ∷ 7 ∷ []) all_differ))
+          (pairs_map f (λ j k. j ≢ k) (λ t u. t.core ≢ u.core) (λ j k h. h) them (AllPairs-filter (λ j k. j ≢ k) (is_other cores asking) all_cores all_differ))
           (All-map (λ t. t.core ≢ asking) f them (others_differ n cores asking few));
     }
 

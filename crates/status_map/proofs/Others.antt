@@ -4,7 +4,9 @@ use Rattle.std.proofs.lemmas.Bool.{cases_Bool, eq-eqb}
 use Rattle.std.proofs.lemmas.List.{map-append, append-nil, length-map}
 use Rattle.std.proofs.lemmas.List.Elements.{filter_more}
 use Rattle.std.proofs.lemmas.List.Sums.{length-filter, count_by-le-length}
-use Rattle.status_map.specs.Cores.{is_other, others}
+use Rattle.std.proofs.lemmas.List.FromFn.{length-range_with_len, get_or-range_with_len}
+use Rattle.slack_base.specs.declared.bounds.TheConstants.{MOST_CORES}
+use Rattle.status_map.specs.Cores.{all_cores, is_other, others}
 
 module _ {X Y : Type 0} (f : X → Y) (p : X → Bool) (xs : List X) (i : ℕ) (d : X) (within : i < length xs) where
   -- one more element is looked at, and passes or not
@@ -32,19 +34,16 @@ module _ {X : Type 0} (p : X → Bool) where
 pub few_so_far : {X Y : Type 0} (f : X → Y) (p : X → Bool) (xs : List X) (i : ℕ) → length (map f (filter p (take i xs))) ≤ i
 few_so_far f p xs i = omega (arith, length-map (filter p (take i xs)) f, few_pass p (take i xs), length-take i xs)
 
-core_at : (c : ℕ) → c < 8 → get_or (0 ∷ 1 ∷ 2 ∷ 3 ∷ 4 ∷ 5 ∷ 6 ∷ 7 ∷ []) c 0 ≡ c
-core_at zero h = refl
-core_at (suc zero) h = refl
-core_at (suc (suc zero)) h = refl
-core_at (suc (suc (suc zero))) h = refl
-core_at (suc (suc (suc (suc zero)))) h = refl
-core_at (suc (suc (suc (suc (suc zero))))) h = refl
-core_at (suc (suc (suc (suc (suc (suc zero)))))) h = refl
-core_at (suc (suc (suc (suc (suc (suc (suc zero))))))) h = refl
-core_at (suc (suc (suc (suc (suc (suc (suc (suc c)))))))) h = absurd (omega arith)
+-- each number stands at its own place
+pub core_at : (c d : ℕ) → c < MOST_CORES → get_or all_cores c d ≡ c
+core_at c d low = let at = get_or-range_with_len 0 MOST_CORES c d low in omega (arith, at)
 
--- the one that asks isn't among the others, so there are 7 at most
-pub seven_others : (cores asking : ℕ) → asking < 8 → length (others cores asking) < 8
-seven_others cores asking low =
-    let itself : get_or (0 ∷ 1 ∷ 2 ∷ 3 ∷ 4 ∷ 5 ∷ 6 ∷ 7 ∷ []) asking 0 ≡ asking = core_at asking low in
-    fewer_pass (is_other cores asking) (0 ∷ 1 ∷ 2 ∷ 3 ∷ 4 ∷ 5 ∷ 6 ∷ 7 ∷ []) asking 0 low (rw (itself, eq-eqb asking asking refl) refl)
+pub count_of_cores : length all_cores ≡ MOST_CORES
+count_of_cores = length-range_with_len 0 MOST_CORES
+
+-- the one that asks isn't among the others, so there is room for one more
+pub fewer_others : (cores asking : ℕ) → asking < MOST_CORES → length (others cores asking) < MOST_CORES
+fewer_others cores asking low =
+    let fewer : length (others cores asking) < length all_cores =
+    fewer_pass (is_other cores asking) all_cores asking 0 (omega (arith, count_of_cores)) (rw (core_at asking 0 low, eq-eqb asking asking refl) refl) in
+    omega (arith, count_of_cores)

@@ -5,6 +5,7 @@ use Rattle.std.proofs.lemmas.Bool.{cases_eq, cases_lt, both_ways, eq-eqb, ne_eqb
 use Rattle.std.proofs.lemmas.Nat.{or_lt}
 use Rattle.std.proofs.lemmas.Nat.Bits.{bit_at_or, bit_at-pow_same, bit_at-pow_other, bit_at-lt, bit_at_above}
 use Rattle.std.proofs.Math.Pow.{pow-lt}
+use Rattle.slack_base.specs.declared.bounds.TheConstants.{MOST_CORES}
 use Rattle.status_map.specs.Cores.{holds, with_core}
 
 -- the members of a set with one more core
@@ -31,8 +32,8 @@ below_from_holds n cores k few member = elim (cases_lt k n) [
 ]
 
 -- the number of a core as a set, as it is computed
-pub shifted : (core : ℕ) → core < 8 → 1 * 2 ^ core % 4294967296 ≡ 2 ^ core
+pub shifted : (core : ℕ) → core < MOST_CORES → 1 * 2 ^ core % 4294967296 ≡ 2 ^ core
 shifted core low =
-    let small : 2 ^ core < 2 ^ 8 = pow-lt low in
+    let small : 2 ^ core < 2 ^ 32 = pow-lt {i = core} {j = 32} (omega arith) in
     let one : 1 * 2 ^ core ≡ 2 ^ core = omega arith in
     rw one (mod-eq_of_lt (omega (arith, small)))

@@ -1,6 +1,8 @@
 -- Sets of cores as numbers.
-use Rattle.std.specs.Prelude.{ℕ, ◌^◌, Bool, not, List, [], ◌∷◌, ◌==◌, ◌&&◌, filter, bit_or}
+use Rattle.std.specs.Prelude.{ℕ, ◌^◌, Bool, not, List, ◌==◌, ◌&&◌, filter, bit_or}
 use Rattle.std.specs.Int.{bit_at}
+use Rattle.std.specs.List.{range_with_len}
+use Rattle.slack_base.specs.declared.bounds.TheConstants.{MOST_CORES}
 
 -- the core is in the set: its bit is 1
 abbrev pub holds : ℕ → ℕ → Bool
@@ -18,6 +20,10 @@ only core = with_core 0 core
 abbrev pub is_other : ℕ → ℕ → ℕ → Bool
 is_other cores asking core = not (core == asking) && holds cores core
 
+-- the cores that a machine may have, in the order of their numbers
+abbrev pub all_cores : List ℕ
+all_cores = range_with_len 0 MOST_CORES
+
 -- the members of the set but for the one that asks, in the order of their numbers
 abbrev pub others : ℕ → ℕ → List ℕ
-others cores asking = filter (is_other cores asking) (0 ∷ 1 ∷ 2 ∷ 3 ∷ 4 ∷ 5 ∷ 6 ∷ 7 ∷ [])
+others cores asking = filter (is_other cores asking) all_cores

@@ -1,11 +1,12 @@
 //! The posts that one ask causes.
-ghost use Rattle.std.specs.Prelude.{◌≡◌, ◌<◌, [], ◌∷◌, ◌++◌, length};
+ghost use Rattle.std.specs.Prelude.{◌≡◌, ◌<◌, ◌≤◌, [], ◌∷◌, ◌++◌, length};
+ghost use Rattle.slack_base.specs.declared.bounds.TheConstants.{MOST_CORES};
 
-use slack_base::{Id, Post, PostKind};
+use slack_base::{Id, MOST_CORES, Post, PostKind};
 use std::marker::Model;
 
-/// The most posts that a batch has room for.
-const ROOM: usize = 8;
+/// The most posts that a batch has room for: one to each core.
+const ROOM: usize = MOST_CORES as usize;
 
 /// What stands in a place that holds no post.
 const NO_POST: Post = Post {
@@ -20,7 +21,8 @@ const NO_POST: Post = Post {
     kind: PostKind::Retry,
 };
 
-/// At most 8 posts, in the order in which they were sent. It takes no memory. A contract sees the list of them.
+/// At most `MOST_CORES` posts, in the order in which they were sent. It takes no memory. A contract sees the list of
+/// them.
 #[derive(Debug, Drop)]
 pub struct PostBatch {
     posts: [Post; ROOM],
@@ -29,13 +31,14 @@ pub struct PostBatch {
 
 impl Model for PostBatch {
     ghost use Rattle.std.specs.Prelude.{List, take, length, ◌≤◌, ◌≡◌};
+    ghost use Rattle.slack_base.specs.declared.bounds.TheConstants.{MOST_CORES};
     ghost use Rattle.slack_base.specs.declared.messages.Post.{Post};
 
     ghost Value = { List Post };
 
     ghost view = { λ b. take b.len b.posts };
 
-    ghost invariant = { λ b. (b.len ≤ 8) × (length b.posts ≡ 8) };
+    ghost invariant = { λ b. (b.len ≤ MOST_CORES) × (length b.posts ≡ MOST_CORES) };
 }
 
 impl PostBatch {
@@ -49,16 +52,17 @@ impl PostBatch {
         }
     }
 
-    /// The posts in their order.
+    /// The posts in their order: at most one to each core that a machine may have.
     pub fn posts(&self) -> &[Post]
-        ensures { result.now ≡ self.now }
+        ensures posts { result.now ≡ self.now }
+        ensures few { length result.now ≤ MOST_CORES }
     {
         &self.posts[..self.len]
     }
 
     /// Puts a post at the end.
     pub(crate) fn push(&mut self, post: Post)
-        requires { length self.old < 8 }
+        requires { length self.old < MOST_CORES }
         ensures { self.new ≡ self.old ++ post ∷ [] }
     {
         let posts = &mut self.posts;

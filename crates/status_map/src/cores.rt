@@ -1,13 +1,11 @@
 //! Sets of cores as the bits of a number: core `c` is in the set where bit `c` is 1.
 ghost use Rattle.std.specs.Prelude.{◌≡◌, ℕ, ◌^◌, ◌<◌, ◌==◌, ◌||◌};
+ghost use Rattle.slack_base.specs.declared.bounds.TheConstants.{MOST_CORES};
 ghost use Rattle.status_map.specs.Cores.{holds, is_other, with_core};
-
-/// The numbers that a core may have.
-pub const CORES: [u32; 8] = [0, 1, 2, 3, 4, 5, 6, 7];
 
 /// Whether a core is in a set.
 pub fn holds(cores: u32, core: u32) -> bool
-    requires { core < 8 }
+    requires { core < MOST_CORES }
     ensures { result ≡ holds cores core }
 {
     cores >> core & 1 == 1
@@ -15,7 +13,7 @@ pub fn holds(cores: u32, core: u32) -> bool
 
 /// Whether a core is in a set and isn't the one that asks.
 pub fn is_other(cores: u32, asking: u32, core: u32) -> bool
-    requires { core < 8 }
+    requires { core < MOST_CORES }
     ensures { result ≡ is_other cores asking core }
 {
     core != asking && holds(cores, core)
@@ -23,11 +21,11 @@ pub fn is_other(cores: u32, asking: u32, core: u32) -> bool
 
 /// The set with one more core.
 pub fn with_core(cores: u32, core: u32) -> u32
-    requires core { core < 8 }
-    requires cores { cores < 2 ^ 8 }
+    requires core { core < MOST_CORES }
+    requires cores { cores < 2 ^ MOST_CORES }
     ensures set { result ≡ with_core cores core }
     ensures members { (k : ℕ) → holds result k ≡ (k == core || holds cores k) }
-    ensures within { result < 2 ^ 8 }
+    ensures within { result < 2 ^ MOST_CORES }
 {
     cores | 1 << core
 }

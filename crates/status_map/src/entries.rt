@@ -1,23 +1,26 @@
 //! An entry of the status map, and what each kind of ask does to it.
 ghost use Rattle.std.specs.Prelude.{◌≡◌, ◌+◌, ◌^◌, ◌<◌, ◌≤◌, [], ◌∷◌, ◌++◌, length, max, map};
+ghost use Rattle.slack_base.specs.declared.bounds.TheConstants.{MOST_CORES, TOP};
+ghost use Rattle.slack_base.specs.Messages.{id_of};
 ghost use Rattle.status_map.specs.Cores.{others};
 ghost use Rattle.status_map.specs.Entries.{NamesBelow, AreShort};
 ghost use Rattle.status_map.specs.Table.{send, post_of, serve, WritesBack};
 
 use crate::batches::PostBatch;
-use crate::cores::{CORES, is_other, with_core};
+use crate::cores::{is_other, with_core};
 use crate::views::{Delays, EntryKind, EntryView};
-use slack_base::{Ask, Id, Post, PostKind, Words};
+use slack_base::{Ask, Id, MOST_CORES, Post, PostKind, Words};
 use std::marker::Model;
 
-/// The entry of a line: who holds it, from which cycle this is settled, and the words that memory has. The cores
-/// that it names are below 8. A contract sees its view.
+/// The entry of a line: which cores were promised it, from which cycle this is settled, and the words that memory has.
+/// The cores that it names are below `MOST_CORES`. A contract sees its view.
 #[derive(Clone, Copy, Debug, PartialEq, Eq)]
 pub struct Entry {
     view: EntryView,
 }
 
 impl Model for Entry {
+    ghost use Rattle.slack_base.specs.declared.bounds.TheConstants.{MOST_CORES};
     ghost use Rattle.status_map.specs.declared.views.EntryView.{EntryView};
     ghost use Rattle.status_map.specs.Entries.{NamesBelow};
 
@@ -25,7 +28,7 @@ impl Model for Entry {
 
     ghost view = { λ e. e.view };
 
-    ghost invariant = { λ e. NamesBelow 8 e.view.kind };
+    ghost invariant = { λ e. NamesBelow MOST_CORES e.view.kind };
 
     ghost inverse = { λ v. record { view = v } };
 }
@@ -41,9 +44,9 @@ struct Granted {
 impl Granted {
     /// Sends a post to a core, due so long after the grant.
     fn send(&self, to: u32, delay: u64, kind: PostKind, out: &mut PostBatch)
-        requires grant { self.now.grant ≤ 2 ^ 62 }
+        requires grant { self.now.grant ≤ TOP }
         requires delay { delay ≤ 64 }
-        requires room { length out.old < 8 }
+        requires room { length out.old < MOST_CORES }
         ensures { out.new ≡ out.old ++ post_of self.now.id self.now.line self.now.grant (send to delay kind) ∷ [] }
     {
         out.push(Post {
@@ -57,14 +60,14 @@ impl Granted {
 
     /// Invalidates the line in each core of a set but the one that asks, in the order of the cores.
     fn invalidate(&self, cores: u32, delay: u64, out: &mut PostBatch)
-        requires core { self.now.id.core < 8 }
-        requires grant { self.now.grant ≤ 2 ^ 62 }
+        requires core { self.now.id.core < MOST_CORES }
+        requires grant { self.now.grant ≤ TOP }
         requires delay { delay ≤ 64 }
         requires empty { out.old ≡ [] }
-        ensures posts { out.new ≡ map (λ k. post_of self.now.id self.now.line self.now.grant (send k delay PostKind.Invalidate)) (others cores self.now.id.core) }
-        ensures room { length out.new < 8 }
+        ensures posts { let a = self.now in out.new ≡ map (λ k. post_of a.id a.line a.grant (send k delay PostKind.Invalidate)) (others cores a.id.core) }
+        ensures room { length out.new < MOST_CORES }
     {
-        for core in CORES {
+        for core in 0..MOST_CORES {
             if is_other(cores, self.id.core, core) {
                 self.send(core, delay, PostKind::Invalidate, out);
             }
@@ -89,14 +92,14 @@ impl Entry {
     /// What the entry says.
     pub fn view(&self) -> EntryView
         ensures view { result ≡ self.now }
-        ensures cores { NamesBelow 8 result.kind }
+        ensures cores { NamesBelow MOST_CORES result.kind }
     {
         self.view
     }
 
     /// Who holds the line from now on, and the words that memory has.
     fn set(&mut self, kind: EntryKind, words: Words)
-        requires { NamesBelow 8 kind }
+        requires { NamesBelow MOST_CORES kind }
         ensures { self.new ≡ record self.old { kind = kind; words = words } }
     {
         self.view.kind = kind;
@@ -113,22 +116,42 @@ impl Entry {
 
     /// Promises the line to a core, with the words that memory has.
     fn reply(&mut self, asked: &Granted, to: u32, delay: u64, exclusive: bool, out: &mut PostBatch)
-        requires grant { asked.now.grant ≤ 2 ^ 62 }
+        requires grant { asked.now.grant ≤ TOP }
         requires delay { delay ≤ 64 }
-        requires room { length out.old < 8 }
+        requires room { length out.old < MOST_CORES }
         ensures entry { self.new ≡ record self.old { settled = max self.old.settled (asked.now.grant + delay + 1) } }
-        ensures posts { out.new ≡ out.old ++ post_of asked.now.id asked.now.line asked.now.grant (send to delay (PostKind.Reply exclusive self.old.words)) ∷ [] }
+        ensures posts { let a = asked.now in out.new ≡ out.old ++ post_of a.id a.line a.grant (send to delay (PostKind.Reply exclusive self.old.words)) ∷ [] }
     {
         let words = self.view().words;
         asked.send(to, delay, PostKind::Reply { exclusive, words }, out);
         self.settle(asked.grant + delay);
     }
 
+    /// Serves an ask for the line that was granted its bus at a cycle, by the table of asks and entries. A `Put` is for
+    /// no line, and changes nothing.
+    #[tactic(auto, unfolding(crate::specs::Table::serve, crate::specs::Table::row))]
+    pub fn serve(&mut self, ask: &Ask, grant: u64, delays: &Delays, out: &mut PostBatch)
+        requires core { (id_of ask.now).core < MOST_CORES }
+        requires grant { grant ≤ TOP }
+        requires delays { AreShort delays.now }
+        requires empty { out.old ≡ [] }
+        ensures entry { self.new ≡ (serve delays.now grant ask.now self.old).entry }
+        ensures posts { out.new ≡ (serve delays.now grant ask.now self.old).posts }
+    {
+        match *ask {
+            Ask::Read { id, line } => self.read(id, line, grant, delays, out),
+            Ask::ReadOwn { id, line } => self.read_own(id, line, grant, delays, out),
+            Ask::WriteBack { id, words, .. } => self.write_back(id.core, words),
+            Ask::Flush { id, line, words } => self.flush(id, line, words, grant, delays, out),
+            Ask::Put { .. } => {}
+        }
+    }
+
     /// A core asks to read the line.
     #[tactic(auto, unfolding(crate::specs::Table::serve, crate::specs::Table::row))]
     pub fn read(&mut self, id: Id, line: u32, grant: u64, delays: &Delays, out: &mut PostBatch)
-        requires core { id.core < 8 }
-        requires grant { grant ≤ 2 ^ 62 }
+        requires core { id.core < MOST_CORES }
+        requires grant { grant ≤ TOP }
         requires delays { AreShort delays.now }
         requires empty { out.old ≡ [] }
         ensures entry { self.new ≡ (serve delays.now grant (Ask.Read id line) self.old).entry }
@@ -170,8 +193,8 @@ impl Entry {
     /// A core asks to own the line.
     #[tactic(auto, unfolding(crate::specs::Table::serve, crate::specs::Table::row))]
     pub fn read_own(&mut self, id: Id, line: u32, grant: u64, delays: &Delays, out: &mut PostBatch)
-        requires core { id.core < 8 }
-        requires grant { grant ≤ 2 ^ 62 }
+        requires core { id.core < MOST_CORES }
+        requires grant { grant ≤ TOP }
         requires delays { AreShort delays.now }
         requires empty { out.old ≡ [] }
         ensures entry { self.new ≡ (serve delays.now grant (Ask.ReadOwn id line) self.old).entry }
@@ -214,7 +237,7 @@ impl Entry {
     /// A core sends back the words of a line that it wrote and no longer holds.
     #[tactic(auto, unfolding(crate::specs::Table::serve, crate::specs::Table::row))]
     pub fn write_back(&mut self, core: u32, words: Words)
-        requires { core < 8 }
+        requires { core < MOST_CORES }
         ensures { WritesBack core words self.old self.new }
     {
         match self.view().kind {
@@ -246,8 +269,8 @@ impl Entry {
         delays: &Delays,
         out: &mut PostBatch,
     )
-        requires core { id.core < 8 }
-        requires grant { grant ≤ 2 ^ 62 }
+        requires core { id.core < MOST_CORES }
+        requires grant { grant ≤ TOP }
         requires delays { AreShort delays.now }
         requires empty { out.old ≡ [] }
         ensures entry { self.new ≡ (serve delays.now grant (Ask.Flush id line words) self.old).entry }

@@ -2,20 +2,21 @@
 
 use slack_base::Words;
 
-/// Who holds a line.
+/// Which cores the entry of a line permits to hold it. What their caches hold meanwhile isn't said: the messages that
+/// tell them are on their way.
 #[derive(Clone, Copy, Debug, PartialEq, Eq)]
 pub enum EntryKind {
-    /// No core holds it.
+    /// None.
     Idle,
-    /// These cores may hold it, each Shared: bit `c` stands for core `c`.
+    /// These cores, to read it: bit `c` stands for core `c`.
     Shared {
         cores: u32,
     },
-    /// This core holds it, Exclusive or Modified, or it has been promised the line.
+    /// This core alone, to read and to write it. It was promised the line, and may have dropped it since.
     Owned {
         core: u32,
     },
-    /// It is on its way from its owner to a core that asked for it, to be owned there (`exclusive`) or shared.
+    /// Its owner was told to give it up to a core that asked for it, to be owned there (`exclusive`) or shared.
     Moving {
         owner: u32,
         requester: u32,

@@ -4,25 +4,14 @@ ghost use Rattle.slack_base.specs.Bounds.{settled};
 ghost use Rattle.slack_base.specs.Numbers.{numbers_of};
 
 use super::*;
-use slack_base::{Id, RawConfig, SegmentList};
+use slack_base::{RawConfig, SegmentList, TOP};
 use std::test::Fail;
 
 /// Two cores, one bus and a memory of 512 lines.
 const TWO_CORES: RawConfig = RawConfig {
     cores: 2,
-    base: 0,
     memory: 8192,
-    sets: 16,
-    ways: 4,
-    buses: 1,
-    snoop: 2,
-    memory_delay: 10,
-    transfer: 3,
-    occupancy: 2,
-    slack: 8,
-    interval: 1000,
-    limit: 1000000,
-    quantum: 0,
+    ..RawConfig::DEFAULT
 };
 
 /// The bus of two cores after very many asks, so many of them sent away.
@@ -46,11 +35,11 @@ fn bus_after(
 
 /// A core asks for line 256, to store to it, in cycle 1. Whether the bus may be asked.
 fn asks_to_own(bus: &mut Bus, core: u32, out: &mut PostList) -> Result<bool, OutOfMemory> {
-    let config = bus.config;
-    if config.buses == 0 || 256 % config.buses != bus.index || 256 >= config.memory / 16 {
+    let setting = bus.setting;
+    if setting.buses == 0 || 256 % setting.buses != setting.number || 256 >= setting.lines {
         return Ok(false);
     }
-    if core >= config.cores {
+    if core >= setting.cores {
         return Ok(false);
     }
     let id = Id {

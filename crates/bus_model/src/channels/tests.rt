@@ -1,32 +1,28 @@
 //! Asks on one channel, one after another, with the posts that come of them.
 
-ghost use Rattle.std.specs.Prelude.{◌≡◌, ◌+◌, ◌<◌, ◌≤◌, Some, IfOk, OnOk};
+ghost use Rattle.std.specs.Prelude.{◌≡◌, Some, IfOk, IsTrue, OnOk};
+ghost use Rattle.bus_model.specs.Asks.{IsAskOf};
 ghost use Rattle.slack_base.specs.Bounds.{settled};
 ghost use Rattle.slack_base.specs.Images.{Fits};
 ghost use Rattle.slack_base.specs.Numbers.{numbers_of};
-ghost use Rattle.bus_model.specs.Channels.{setting_of};
+ghost use Rattle.bus_model.specs.Channels.{bus_setting};
+ghost use Rattle.bus_model.specs.Settings.{setting_of};
+
+mod exchanges;
 
 use super::*;
-use slack_base::{ByteList, Id, Post, PostKind, RawConfig, Segment, SegmentList, Words};
+use exchanges::{
+    Exchange, FIRST, LAST, LAST_CYCLES, NEIGHBOURS, PASSING, SEVEN_ALONE, SHARING, STORES, ZEROS,
+};
+use slack_base::{ByteList, Post, PostKind, RawConfig, Segment, SegmentList, TOP, Words};
 use status_map::EntryKind;
 use std::test::Fail;
 
 /// Two cores, one bus and a memory of 512 lines.
 const TWO_CORES: RawConfig = RawConfig {
     cores: 2,
-    base: 0,
     memory: 8192,
-    sets: 16,
-    ways: 4,
-    buses: 1,
-    snoop: 2,
-    memory_delay: 10,
-    transfer: 3,
-    occupancy: 2,
-    slack: 8,
-    interval: 1000,
-    limit: 1000000,
-    quantum: 0,
+    ..RawConfig::DEFAULT
 };
 
 /// The same with four buses.
@@ -34,9 +30,6 @@ const FOUR_BUSES: RawConfig = RawConfig {
     buses: 4,
     ..TWO_CORES
 };
-
-/// The cycle at which a bus's numbers stop: 2^62.
-const TOP: u64 = 4611686018427387904;
 
 /// What a core asks of a line.
 #[derive(Clone, Copy)]
@@ -47,21 +40,9 @@ enum Request {
     Flush(Option<u32>),
 }
 
-/// A line with these words at its front.
-fn words_of(w0: u32, w1: u32) -> Words {
-    Words {
-        w0,
-        w1,
-        w2: 0,
-        w3: 0,
-    }
-}
-
-fn reply(exclusive: bool, w0: u32, w1: u32) -> PostKind {
-    PostKind::Reply {
-        exclusive,
-        words: words_of(w0, w1),
-    }
+/// A line with this word at its front.
+fn words_of(w0: u32) -> Words {
+    Words { w0, ..ZEROS }
 }
 
 fn ask_of(id: Id, line: u32, request: Request) -> Ask {
@@ -71,12 +52,12 @@ fn ask_of(id: Id, line: u32, request: Request) -> Ask {
         Request::WriteBack(w0) => Ask::WriteBack {
             id,
             line,
-            words: words_of(w0, 0),
+            words: words_of(w0),
         },
         Request::Flush(w0) => Ask::Flush {
             id,
             line,
-            words: w0.map(|word| words_of(word, 0)),
+            words: w0.map(words_of),
         },
     }
 }
@@ -87,9 +68,19 @@ fn is_post(post: &Post, ask: &Ask, wanted: &(u32, u64, PostKind)) -> bool {
     of_ask && post.to == wanted.0 && post.due == wanted.1 && post.kind == wanted.2
 }
 
-/// An ask and the post that comes of it, if one does: the core, the cycle of the stamp and the ask's number in its
-/// tick, the line, and what is asked; and then the core that the post goes to, its due and what it says.
-type Exchange = ((u32, u64, u64), u32, Request, Option<(u32, u64, PostKind)>);
+/// Whether an ask is of the bus of a number.
+fn is_of(index: u32, config: &Config, ask: &Ask) -> bool
+    ensures { IsTrue result → IsAskOf (setting_of (numbers_of config.now) index) ask.now }
+{
+    let id = ask.id();
+    let Some(line) = ask.line() else {
+        return false;
+    };
+    if config.buses == 0 || line % config.buses != index || line >= config.memory / 16 {
+        return false;
+    }
+    id.core < config.cores && id.cycle <= TOP
+}
 
 /// Serves an ask on the bus of a number, and says whether the bus may be asked it. The posts are then the list's.
 fn serve_on(
@@ -99,22 +90,25 @@ fn serve_on(
     ask: &Ask,
     out: &mut PostList,
 ) -> Result<bool, OutOfMemory>
-    requires { setting_of bus.old ≡ Some (index, numbers_of config.now) }
-    ensures { OnOk result (setting_of bus.new ≡ setting_of bus.old) }
+    requires { bus_setting bus.old ≡ Some (setting_of (numbers_of config.now) index) }
+    ensures { OnOk result (bus_setting bus.new ≡ bus_setting bus.old) }
 {
-    let id = ask.id();
-    let Some(line) = ask.line() else {
-        return Ok(false);
-    };
-    if config.buses == 0 || line % config.buses != index || line >= config.memory / 16 {
-        return Ok(false);
-    }
-    if id.core >= config.cores || id.cycle > TOP {
+    if !is_of(index, config, ask) {
         return Ok(false);
     }
     out.clear();
     bus.serve(ask, out)?;
     Ok(true)
+}
+
+/// What an ask on the one bus clashes with, if it may be asked there.
+fn clash_on(bus: &Channel, config: &Config, ask: &Ask) -> Option<Id>
+    requires { bus_setting bus.now ≡ Some (setting_of (numbers_of config.now) 0) }
+{
+    if !is_of(0, config, ask) {
+        return None;
+    }
+    bus.clash(ask)
 }
 
 /// Serves an ask on the bus of a number, and says whether this post alone came of it.
@@ -126,8 +120,8 @@ fn sends(
     wanted: &Option<(u32, u64, PostKind)>,
     out: &mut PostList,
 ) -> Result<bool, OutOfMemory>
-    requires { setting_of bus.old ≡ Some (index, numbers_of config.now) }
-    ensures { OnOk result (setting_of bus.new ≡ setting_of bus.old) }
+    requires { bus_setting bus.old ≡ Some (setting_of (numbers_of config.now) index) }
+    ensures { OnOk result (bus_setting bus.new ≡ bus_setting bus.old) }
 {
     if !serve_on(bus, index, config, ask, out)? {
         return Ok(false);
@@ -147,8 +141,8 @@ fn all_send(
     lines: &[Exchange],
     out: &mut PostList,
 ) -> Result<bool, OutOfMemory>
-    requires { setting_of bus.old ≡ Some (index, numbers_of config.now) }
-    ensures { OnOk result (setting_of bus.new ≡ setting_of bus.old) }
+    requires { bus_setting bus.old ≡ Some (setting_of (numbers_of config.now) index) }
+    ensures { OnOk result (bus_setting bus.new ≡ bus_setting bus.old) }
 {
     for ((core, cycle, number), line, request, wanted) in lines {
         let id = Id {
@@ -169,14 +163,6 @@ fn all_send(
     }
     Ok(true)
 }
-
-/// The words of the last line of memory.
-const LAST: Words = Words {
-    w0: 0xdeadbeef,
-    w1: 0xffffffff,
-    w2: 0x80000000,
-    w3: 0x01020304,
-};
 
 /// An image of two segments, one at line 256, and one that is the last line of memory.
 fn image(alloc: Global) -> Result<Image, OutOfMemory>
@@ -205,7 +191,7 @@ fn image(alloc: Global) -> Result<Image, OutOfMemory>
 /// The one bus of two cores.
 fn bus_of(alloc: Global, config: &Config) -> Result<Channel, OutOfMemory>
     requires { numbers_of config.now ≡ settled TWO_CORES }
-    ensures { IfOk result (λ bus. setting_of bus ≡ Some (0, numbers_of config.now)) }
+    ensures { IfOk result (λ bus. bus_setting bus ≡ Some (setting_of (numbers_of config.now) 0)) }
 {
     let image = image(alloc)?;
     Channel::bus(alloc, 0, config, &image)
@@ -224,9 +210,9 @@ fn idle(words: Words) -> EntryView {
 fn a_bus_begins_with_the_image(rt: HostRuntime) -> Result<(), Fail> {
     let config = Config::checked(TWO_CORES).expect(&rt, "two cores");
     let bus = bus_of(rt.alloc(), &config)?;
-    assert_eq!(rt; bus.entry(256), idle(words_of(0x04030201, 5)));
+    assert_eq!(rt; bus.entry(256), idle(FIRST));
     assert_eq!(rt; bus.entry(511), idle(LAST));
-    assert_eq!(rt; bus.entry(0), idle(words_of(0, 0)));
+    assert_eq!(rt; bus.entry(0), idle(ZEROS));
     assert_eq!(rt; bus.lines(), 512);
     assert_eq!(rt; (bus.asks(), bus.retries(), bus.free()), (0, 0, 0));
     assert!(rt; bus.console_bytes().is_empty());
@@ -238,28 +224,7 @@ fn two_cores_store_to_one_line(rt: HostRuntime) -> Result<(), Fail> {
     let config = Config::checked(TWO_CORES).expect(&rt, "two cores");
     let mut bus = bus_of(rt.alloc(), &config)?;
     let mut out = PostList::new(rt.alloc());
-    let (own, retry) = (Request::ReadOwn, PostKind::Retry);
-    let lines = [
-        (
-            (0, 1, 0),
-            256,
-            own,
-            Some((0, 11, reply(true, 0x04030201, 5))),
-        ),
-        ((1, 1, 0), 256, own, Some((1, 5, retry))),
-        ((1, 5, 0), 256, own, Some((1, 7, retry))),
-        ((1, 7, 0), 256, own, Some((1, 9, retry))),
-        ((1, 9, 0), 256, own, Some((1, 11, retry))),
-        ((1, 11, 0), 256, own, Some((1, 13, retry))),
-        ((1, 13, 0), 256, own, Some((0, 15, PostKind::SnoopOwn))),
-        (
-            (0, 15, 0),
-            256,
-            Request::Flush(Some(1)),
-            Some((1, 18, reply(true, 1, 0))),
-        ),
-    ];
-    assert!(rt; all_send(&mut bus, 0, &config, &lines, &mut out)?);
+    assert!(rt; all_send(&mut bus, 0, &config, &STORES, &mut out)?);
     assert_eq!(rt; (bus.asks(), bus.retries(), bus.free()), (8, 5, 17));
     Ok(())
 }
@@ -269,34 +234,7 @@ fn a_write_back_passes_a_snoop(rt: HostRuntime) -> Result<(), Fail> {
     let config = Config::checked(TWO_CORES).expect(&rt, "two cores");
     let mut bus = bus_of(rt.alloc(), &config)?;
     let mut out = PostList::new(rt.alloc());
-    let lines = [
-        (
-            (0, 1, 0),
-            256,
-            Request::ReadOwn,
-            Some((0, 11, reply(true, 0x04030201, 5))),
-        ),
-        (
-            (0, 13, 0),
-            257,
-            Request::Read,
-            Some((0, 23, reply(true, 0, 0))),
-        ),
-        (
-            (1, 21, 0),
-            256,
-            Request::Read,
-            Some((0, 23, PostKind::SnoopShare)),
-        ),
-        ((0, 23, 0), 256, Request::WriteBack(4096), None),
-        (
-            (0, 23, 1),
-            256,
-            Request::Flush(None),
-            Some((1, 28, reply(false, 4096, 0))),
-        ),
-    ];
-    assert!(rt; all_send(&mut bus, 0, &config, &lines, &mut out)?);
+    assert!(rt; all_send(&mut bus, 0, &config, &PASSING, &mut out)?);
     assert_eq!(rt; (bus.asks(), bus.retries(), bus.free()), (5, 0, 27));
     Ok(())
 }
@@ -307,33 +245,7 @@ fn a_shared_line_is_taken(rt: HostRuntime) -> Result<(), Fail> {
     let config = Config::checked(TWO_CORES).expect(&rt, "two cores");
     let mut bus = bus_of(rt.alloc(), &config)?;
     let mut out = PostList::new(rt.alloc());
-    let lines = [
-        (
-            (0, 1, 0),
-            511,
-            Request::Read,
-            Some((0, 11, last_line(true))),
-        ),
-        (
-            (1, 12, 0),
-            511,
-            Request::Read,
-            Some((0, 14, PostKind::SnoopShare)),
-        ),
-        (
-            (0, 14, 0),
-            511,
-            Request::Flush(Some(7)),
-            Some((1, 17, reply(false, 7, 0))),
-        ),
-        (
-            (0, 18, 0),
-            511,
-            Request::Read,
-            Some((0, 28, reply(false, 7, 0))),
-        ),
-    ];
-    assert!(rt; all_send(&mut bus, 0, &config, &lines, &mut out)?);
+    assert!(rt; all_send(&mut bus, 0, &config, &SHARING, &mut out)?);
     let id = Id {
         cycle: 30,
         core: 0,
@@ -358,18 +270,12 @@ fn a_shared_line_is_taken(rt: HostRuntime) -> Result<(), Fail> {
     let got = Post {
         to: 0,
         due: 40,
-        kind: reply(true, 7, 0),
+        kind: SEVEN_ALONE,
         ..lost
     };
     assert_eq!(rt; out.as_slice(), [lost, got].as_slice());
     assert_eq!(rt; (bus.asks(), bus.retries(), bus.free()), (5, 0, 32));
     Ok(())
-}
-
-/// A reply with the last line of memory.
-fn last_line(exclusive: bool) -> PostKind {
-    let words = LAST;
-    PostKind::Reply { exclusive, words }
 }
 
 /// Lines go round the buses, and bytes go to the channel behind them.
@@ -395,12 +301,12 @@ fn four_buses(rt: HostRuntime) -> Result<(), Fail> {
     let image = image(rt.alloc())?;
     let first = Channel::bus(rt.alloc(), 0, &config, &image)?;
     assert_eq!(rt; first.lines(), 128);
-    assert_eq!(rt; first.entry(256), idle(words_of(0x04030201, 5)));
-    assert_eq!(rt; first.entry(508), idle(words_of(0, 0)));
+    assert_eq!(rt; first.entry(256), idle(FIRST));
+    assert_eq!(rt; first.entry(508), idle(ZEROS));
     let last = Channel::bus(rt.alloc(), 3, &config, &image)?;
     assert_eq!(rt; last.lines(), 128);
     assert_eq!(rt; last.entry(511), idle(LAST));
-    assert_eq!(rt; last.entry(3), idle(words_of(0, 0)));
+    assert_eq!(rt; last.entry(3), idle(ZEROS));
     Ok(())
 }
 
@@ -411,24 +317,10 @@ fn lines_of_one_bus(rt: HostRuntime) -> Result<(), Fail> {
     let image = image(rt.alloc())?;
     let mut bus = Channel::bus(rt.alloc(), 1, &config, &image)?;
     let mut out = PostList::new(rt.alloc());
-    let lines = [
-        (
-            (0, 1, 0),
-            257,
-            Request::Read,
-            Some((0, 11, reply(true, 0, 0))),
-        ),
-        (
-            (1, 1, 0),
-            509,
-            Request::ReadOwn,
-            Some((1, 13, reply(true, 0, 0))),
-        ),
-    ];
-    assert!(rt; all_send(&mut bus, 1, &config, &lines, &mut out)?);
+    assert!(rt; all_send(&mut bus, 1, &config, &NEIGHBOURS, &mut out)?);
     assert_eq!(rt; bus.entry(257), owned(0, 12));
     assert_eq!(rt; bus.entry(509), owned(1, 14));
-    assert_eq!(rt; bus.entry(253), idle(words_of(0, 0)));
+    assert_eq!(rt; bus.entry(253), idle(ZEROS));
     assert_eq!(rt; (bus.asks(), bus.retries(), bus.free()), (2, 0, 5));
     Ok(())
 }
@@ -438,7 +330,7 @@ fn owned(core: u32, settled: u64) -> EntryView {
     EntryView {
         kind: EntryKind::Owned { core },
         settled,
-        words: words_of(0, 0),
+        words: ZEROS,
     }
 }
 
@@ -448,27 +340,7 @@ fn the_end_of_time(rt: HostRuntime) -> Result<(), Fail> {
     let config = Config::checked(TWO_CORES).expect(&rt, "two cores");
     let mut bus = bus_of(rt.alloc(), &config)?;
     let mut out = PostList::new(rt.alloc());
-    let lines = [
-        (
-            (0, TOP - 1, 0),
-            257,
-            Request::Read,
-            Some((0, TOP + 9, reply(true, 0, 0))),
-        ),
-        (
-            (1, 5, 0),
-            257,
-            Request::ReadOwn,
-            Some((1, TOP + 2, PostKind::Retry)),
-        ),
-        (
-            (1, TOP, 0),
-            258,
-            Request::Read,
-            Some((1, TOP + 10, reply(true, 0, 0))),
-        ),
-    ];
-    assert!(rt; all_send(&mut bus, 0, &config, &lines, &mut out)?);
+    assert!(rt; all_send(&mut bus, 0, &config, &LAST_CYCLES, &mut out)?);
     assert_eq!(rt; (bus.asks(), bus.retries(), bus.free()), (3, 1, TOP));
     Ok(())
 }
@@ -492,5 +364,58 @@ fn the_console_keeps_its_bytes(rt: HostRuntime) -> Result<(), Fail> {
         (0, 0, 0)
     );
     assert_eq!(rt; console.lines(), 0);
+    Ok(())
+}
+
+/// A byte for the console, of core 0 at a cycle.
+fn put(cycle: u64) -> Ask {
+    let id = Id {
+        cycle,
+        core: 0,
+        number: 0,
+    };
+    Ask::Put { id, byte: b'A' }
+}
+
+/// An ask clashes with the greatest id since the console was closed, where that is above its own.
+#[test]
+fn a_console_is_closed(rt: HostRuntime) -> Result<(), Fail> {
+    let mut console = Channel::console(rt.alloc());
+    let mut out = PostList::new(rt.alloc());
+    assert_eq!(rt; console.clash(&put(0)), None);
+    console.serve(&put(5), &mut out)?;
+    console.serve(&put(3), &mut out)?;
+    assert_eq!(rt; console.clash(&put(4)), Some(put(5).id()));
+    assert_eq!(rt; console.clash(&put(5)), None);
+    console.close();
+    assert_eq!(rt; console.clash(&put(0)), None);
+    assert_eq!(rt; console.console_bytes(), b"AA".as_slice());
+    Ok(())
+}
+
+/// A line of a bus is read by core 1 at a cycle.
+fn read(cycle: u64) -> Ask {
+    let id = Id {
+        cycle,
+        core: 1,
+        number: 0,
+    };
+    Ask::Read { id, line: 256 }
+}
+
+/// The same on a bus, which is free and counts as before once it is closed.
+#[test]
+fn a_bus_is_closed(rt: HostRuntime) -> Result<(), Fail> {
+    let config = Config::checked(TWO_CORES).expect(&rt, "two cores");
+    let mut bus = bus_of(rt.alloc(), &config)?;
+    let mut out = PostList::new(rt.alloc());
+    assert_eq!(rt; clash_on(&bus, &config, &read(0)), None);
+    assert!(rt; serve_on(&mut bus, 0, &config, &read(5), &mut out)?);
+    assert!(rt; serve_on(&mut bus, 0, &config, &read(3), &mut out)?);
+    assert_eq!(rt; clash_on(&bus, &config, &read(4)), Some(read(5).id()));
+    assert_eq!(rt; clash_on(&bus, &config, &read(6)), None);
+    bus.close();
+    assert_eq!(rt; clash_on(&bus, &config, &read(4)), None);
+    assert_eq!(rt; (bus.asks(), bus.retries(), bus.free()), (2, 1, 9));
     Ok(())
 }

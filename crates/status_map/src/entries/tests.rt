@@ -1,5 +1,8 @@
 //! Asks for one line, with the posts that come of them and the entry that they leave.
 
+ghost use Rattle.std.specs.Prelude.{◌≡◌};
+ghost use Rattle.slack_base.specs.Messages.{id_of};
+
 mod rows;
 mod sequences;
 
@@ -37,6 +40,25 @@ fn reply(exclusive: bool, w0: u32) -> PostKind {
     }
 }
 
+/// What a core asks of line 256.
+fn ask_of(id: Id, request: Request) -> Ask
+    ensures { id_of result ≡ id }
+{
+    let line = 256;
+    match request {
+        Request::Read => Ask::Read { id, line },
+        Request::ReadOwn => Ask::ReadOwn { id, line },
+        Request::WriteBack(w0) => {
+            let words = words_of(w0);
+            Ask::WriteBack { id, line, words }
+        }
+        Request::Flush(w0) => {
+            let words = w0.map(words_of);
+            Ask::Flush { id, line, words }
+        }
+    }
+}
+
 /// Serves a request of a core, and says whether these posts came of it, each with its receiver and its due.
 fn sends(
     entry: &mut Entry,
@@ -52,12 +74,7 @@ fn sends(
     };
     let grant = u64::from(grant);
     let mut out = PostBatch::new();
-    match request {
-        Request::Read => entry.read(id, 256, grant, &DELAYS, &mut out),
-        Request::ReadOwn => entry.read_own(id, 256, grant, &DELAYS, &mut out),
-        Request::WriteBack(w0) => entry.write_back(core % 8, words_of(w0)),
-        Request::Flush(w0) => entry.flush(id, 256, w0.map(words_of), grant, &DELAYS, &mut out),
-    }
+    entry.serve(&ask_of(id, request), grant, &DELAYS, &mut out);
     if out.posts().len() != wanted.len() {
         return false;
     }

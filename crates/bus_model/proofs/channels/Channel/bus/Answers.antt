@@ -5,4 +5,4 @@ use Rattle.bus_model.proofs.channels.Channel.bus.Goals as goal
 
 pub returns-clause-setting : goal.returns-clause-setting
 unfolding first_bus
-returns-clause-setting c = ap (λ (b : BusValue). Some (b.number, b.config)) c.in_ok-bus.ensures.value
+returns-clause-setting c = ap (λ (b : BusValue). Some b.setting) c.in_ok-bus.ensures.value
