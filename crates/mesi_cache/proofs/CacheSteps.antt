@@ -7,7 +7,7 @@ use Rattle.std.proofs.lemmas.List.Elements.{All-nil}
 use Rattle.slack_base.specs.Bounds.{is_among}
 use Rattle.mesi_cache.specs.declared.lines.CacheLine.{CacheLine}
 use Rattle.mesi_cache.specs.Sets.{to_front, fill_set, snoop_set}
-use Rattle.mesi_cache.specs.Caches.{CacheView, IsSet, IsCache, set_number, empty_cache}
+use Rattle.mesi_cache.specs.Caches.{CacheValue, IsSet, IsCache, set_number, empty_cache}
 use Rattle.mesi_cache.proofs.Kept.{kept_front, kept_fill, kept_snoop}
 
 some_sets : (n : ℕ) → IsTrue (is_among n (1 ∷ 2 ∷ 4 ∷ 8 ∷ 16 ∷ 32 ∷ 64 ∷ [])) → 0 < n
@@ -23,7 +23,7 @@ empty_is sets ways power few = record {
       rw (get_or-replicate {A = List CacheLine} sets k [] [] near) (record { within = omega arith; once = λ m. omega arith; placed = All-nil _ });
 }
 
-module _ (v : CacheView) (is : IsCache v) (line number : ℕ) (here : number ≡ set_number v line) where
+module _ (v : CacheValue) (is : IsCache v) (line number : ℕ) (here : number ≡ set_number v line) where
   pub in_range : number < length v.sets
   in_range = let some = some_sets (length v.sets) is.sets in omega (arith, here)
 

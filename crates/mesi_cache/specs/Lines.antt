@@ -7,7 +7,7 @@ use Rattle.mesi_cache.specs.declared.lines.CacheLine.{CacheLine}
 use Rattle.mesi_cache.specs.declared.lines.HeldLine.{HeldLine}
 use Rattle.mesi_cache.specs.Words.{with_word}
 
--- a line may be written where no other cache holds it
+-- a line may be written in the states Exclusive and Modified
 abbrev pub may_write : Held → Bool
 may_write Shared = false
 may_write Exclusive = true

@@ -22,9 +22,9 @@ pub struct Cache {
 }
 
 impl Model for Cache {
-    ghost use Rattle.mesi_cache.specs.Caches.{CacheView, IsCache};
+    ghost use Rattle.mesi_cache.specs.Caches.{CacheValue, IsCache};
 
-    ghost Value = { CacheView };
+    ghost Value = { CacheValue };
 
     ghost view = { λ c. record { ways = c.ways; sets = c.sets.items } };
 
@@ -108,10 +108,10 @@ impl Cache {
         set.read(line, word)
     }
 
-    /// Writes a word, 0 to 3, of a line that this cache alone holds. The line becomes Modified, and the most
+    /// Writes a word, 0 to 3, of a line that the cache holds and may write. The line becomes Modified, and the most
     /// recent of its set.
     pub fn write(&mut self, line: u32, word: u32, value: u32)
-        requires alone { IsSomeAnd (line_in self.old line) (λ l. IsTrue (may_write l.held)) }
+        requires writable { IsSomeAnd (line_in self.old line) (λ l. IsTrue (may_write l.held)) }
         requires in_line { word < 4 }
         ensures { self.new ≡ write_line self.old line word value }
     {

@@ -5,7 +5,8 @@ pub mod caches;
 pub mod laws;
 pub mod lines;
 mod sets;
-mod words;
+pub mod words;
 
 pub use caches::Cache;
 pub use lines::{CacheLine, Held, HeldLine, Victim};
+pub use words::word_at;

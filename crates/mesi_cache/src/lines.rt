@@ -4,20 +4,20 @@ ghost use Rattle.mesi_cache.specs.Lines.{may_write};
 
 use slack_base::Words;
 
-/// The state of a held line, one of the three of MESI that a line in a cache can have. A line that isn't held
-/// is Invalid.
+/// The state of a held line, one of the three of MESI that a line in a cache can have: what the cache may do with the
+/// line. A line that isn't held is Invalid.
 #[derive(Clone, Copy, Debug, PartialEq, Eq)]
 pub enum Held {
-    /// Other caches may hold the line too; memory has the same words.
+    /// The line may be read, and not written.
     Shared,
-    /// No other cache holds the line; memory has the same words.
+    /// The line may be read and written. It wasn't written since it came.
     Exclusive,
-    /// No other cache holds the line, and it was written here.
+    /// The line may be read and written, and it was written since it came.
     Modified,
 }
 
 impl Held {
-    /// Whether the cache may write the line: no other cache holds it.
+    /// Whether the cache may write a line in this state.
     pub fn may_write(self) -> bool
         ensures { result ≡ may_write self }
     {

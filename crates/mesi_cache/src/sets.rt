@@ -147,9 +147,9 @@ impl CacheSet {
         word_at(&used.words, word)
     }
 
-    /// Writes a word of a line that the set alone holds.
+    /// Writes a word of a line that the set holds and that may be written.
     pub fn write(&mut self, line: u32, word: u32, value: u32)
-        requires alone { IsSomeAnd (find_line line self.old) (λ l. IsTrue (may_write l.held)) }
+        requires writable { IsSomeAnd (find_line line self.old) (λ l. IsTrue (may_write l.held)) }
         requires once { length (filter (is_line line) self.old) ≤ 1 }
         requires in_line { word < 4 }
         ensures { self.new ≡ to_front (written word value) line self.old }
@@ -158,8 +158,8 @@ impl CacheSet {
             unreachable!()
         };
         let used = self.at(place);
-        let alone = used.held.may_write();
-        prove!(alone);
+        let writable = used.held.may_write();
+        prove!(writable);
         let written = CacheLine {
             held: Held::Modified,
             words: with_word(&used.words, word, value),

@@ -5,9 +5,10 @@ use Rattle.std.specs.List.{AllByRecursion}
 use Rattle.slack_base.specs.declared.messages.Ask.{Ask}
 use Rattle.slack_base.specs.declared.messages.Post.{Post}
 use Rattle.slack_base.specs.declared.stamps.Id.{Id}
+use Rattle.slack_base.specs.Inboxes.{CoreValue, tick_by}
 use Rattle.timed_core.specs.Code.{CodeValue}
-use Rattle.timed_core.specs.Cores.{CoreValue, Inner}
-use Rattle.timed_core.specs.Ticks.{applied_all, asks_of, id_at, stepped, tick, tick_of}
+use Rattle.timed_core.specs.Cores.{HartValue}
+use Rattle.timed_core.specs.Ticks.{applied_all, asks_of, id_at, stepped, tick}
 
 abbrev pub due_by : ℕ → List Post → List Post
 due_by t inbox = filter (λ p. nat_le p.due t) inbox
@@ -16,7 +17,7 @@ abbrev pub later_than : ℕ → List Post → List Post
 later_than t inbox = filter (λ p. nat_lt t p.due) inbox
 
 -- where the posts that are still due lead, once asks were appended to a list of this length
-abbrev pub through_due : (base t before : ℕ) → Inner → List Post → List Ask → Inner × List Ask
+abbrev pub through_due : (base t before : ℕ) → HartValue → List Post → List Ask → HartValue × List Ask
 through_due base t before hart inbox out =
     let rest = applied_all base t (length out - before) hart (due_by t inbox) in (rest.0, out ++ rest.1)
 
@@ -35,18 +36,18 @@ all_later t [] h = refl
 all_later t (p ∷ inbox) h = rw (is_later t p.due h.0) (ap (λ rest. p ∷ rest) (all_later t inbox h.1))
 
 -- with no post that is due nothing changes
-pub none_through : (base t before : ℕ) (hart : Inner) (inbox : List Post) (out : List Ask) → AllByRecursion (λ p. t < p.due) inbox →
+pub none_through : (base t before : ℕ) (hart : HartValue) (inbox : List Post) (out : List Ask) → AllByRecursion (λ p. t < p.due) inbox →
     through_due base t before hart inbox out ≡ (hart, out)
 none_through base t before hart inbox out h =
     ap (λ due. let rest = applied_all base t (length out - before) hart due in (rest.0, out ++ rest.1)) (none_due t inbox h)
     ∙ ap (λ asks. (hart, asks)) (append-nil out)
 
 -- what stands once none is due any more
-pub record IsDone (base t : ℕ) (first : Inner) (inbox : List Post) (sent : List Ask) (last : Inner) (out : List Ask) : Type 0 where
+pub record IsDone (base t : ℕ) (first : HartValue) (inbox : List Post) (sent : List Ask) (last : HartValue) (out : List Ask) : Type 0 where
   pub hart : last ≡ (applied_all base t 0 first (due_by t inbox)).0
   pub asks : out ≡ sent ++ (applied_all base t 0 first (due_by t inbox)).1
 
-pub done : (base t before : ℕ) (hart first : Inner) (left inbox : List Post) (out sent : List Ask) →
+pub done : (base t before : ℕ) (hart first : HartValue) (left inbox : List Post) (out sent : List Ask) →
     AllByRecursion (λ p. t < p.due) left → before ≡ length sent →
     through_due base t before hart left out ≡ through_due base t before first inbox sent → IsDone base t first inbox sent hart out
 done base t before hart first left inbox out sent late begun same =
@@ -56,15 +57,15 @@ done base t before hart first left inbox out sent late begun same =
     record { hart = ap (λ r. r.0) (reached ∙ from_none); asks = ap (λ r. r.1) (reached ∙ from_none) }
 
 -- the tick of a core, by what its posts left: the hart, and the asks that were sent
-pub record IsTicked (code : CodeValue) (t : ℕ) (core : CoreValue Inner) (hart : Inner) (left : List Post) (sent out : List Ask) : Type 0 where
-  pub after : record { inner = hart; inbox = left } ≡ (tick_of code t core).0
-  pub asks : out ≡ sent ++ (tick_of code t core).1
+pub record IsTicked (code : CodeValue) (t : ℕ) (core : CoreValue HartValue) (hart : HartValue) (left : List Post) (sent out : List Ask) : Type 0 where
+  pub after : record { inner = hart; inbox = left } ≡ (tick_by (tick code) t core).0
+  pub asks : out ≡ sent ++ (tick_by (tick code) t core).1
 
-pub ticked : (code : CodeValue) (t before : ℕ) (core : CoreValue Inner) (hart : Inner) (left : List Post) (sent out : List Ask) (id : Id) →
+pub ticked : (code : CodeValue) (t before : ℕ) (core : CoreValue HartValue) (hart : HartValue) (left : List Post) (sent out : List Ask) (id : Id) →
     before ≡ length sent → left ≡ later_than t core.inbox → IsDone code.base t core.inner core.inbox sent hart out →
     id ≡ id_at t hart (length out - before) →
     IsTicked code t core (stepped code id hart).0 left sent (out ++ asks_of (stepped code id hart).1)
-unfolding tick tick_of
+unfolding tick
 ticked code t before core hart left sent out id begun later posts id_is =
     let all = applied_all code.base t 0 core.inner (due_by t core.inbox) in
     let total : length out ≡ length sent + length all.1 = ap length posts.asks ∙ length-append sent all.1 in

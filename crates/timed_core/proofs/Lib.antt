@@ -1,6 +1,6 @@
 pub mod AccessSteps
 pub mod Due
-pub mod HeldBelow
+pub mod OwnCaches
 pub mod InstructionSteps
 pub mod Lawful
 pub mod PostSteps

@@ -2,27 +2,24 @@
 use Rattle.std.proofs.Common.{◌≡◌, ◌∙◌, ℕ, ◌==◌, List, Option, None, slice_index, get_or-set_other, refl, sym, ap, inl, inr}
 use Rattle.std.specs.Option.{IfSome}
 use Rattle.std.proofs.lemmas.Bool.{cases_Bool, eqb-false}
+use Rattle.slack_base.specs.Numbers.{lines_of}
+use Rattle.slack_base.specs.declared.configs.RawConfig.{RawConfig}
 use Rattle.slack_base.specs.declared.stamps.Id.{Id}
 use Rattle.slack_base.specs.declared.messages.Ask.{Ask}
 use Rattle.slack_base.specs.declared.cores.Trap.{Trap}
 use Rattle.slack_base.specs.Messages.{id_of, line_of}
-use Rattle.timed_core.specs.Cores.{Inner, with_register, goes_on, gives, trapped}
-use Rattle.timed_core.specs.Laws.{HoldsBelow, IsLineBelow}
-
--- a core without its inbox: x0 is 0, and its cache holds lines of memory alone
-pub record IsSoundInner (lines : ℕ) (core : Inner) : Type 0 where
-  pub zero : slice_index core.registers 0 ≡ 0
-  pub cache : HoldsBelow lines core.cache
+use Rattle.timed_core.specs.Cores.{HartValue, with_register, goes_on, gives, trapped}
+use Rattle.timed_core.specs.Laws.{IsSoundHart, IsLineBelow}
 
 -- an ask has this id, and a line of memory if it has one
 abbrev pub IsAskBelow : (lines : ℕ) → Id → Ask → Type 0
 IsAskBelow lines id ask = (id_of ask ≡ id) × IsLineBelow lines (line_of ask)
 
--- a step leaves a sound core of the same number, and asks with this id for lines of memory alone
-pub record IsStep (lines number : ℕ) (id : Id) (out : Inner × Option Ask) : Type 0 where
-  pub sound : IsSoundInner lines out.0
+-- a step leaves a sound hart of the same number, and asks with this id for lines of memory alone
+pub record IsStep (config : RawConfig) (number : ℕ) (id : Id) (out : HartValue × Option Ask) : Type 0 where
+  pub sound : IsSoundHart config out.0
   pub same : out.0.number ≡ number
-  pub ask : IfSome out.1 (IsAskBelow lines id)
+  pub ask : IfSome out.1 (IsAskBelow (lines_of config) id)
 
 pub zero_kept : (x : List ℕ) (rd value : ℕ) → slice_index x 0 ≡ 0 → slice_index (with_register x rd value) 0 ≡ 0
 zero_kept x rd value h = elim (cases_Bool (rd == 0)) [
@@ -30,23 +27,27 @@ zero_kept x rd value h = elim (cases_Bool (rd == 0)) [
   | inr other ↦ rw other (get_or-set_other x rd 0 value 0 (λ same. eqb-false rd 0 other (sym same)) ∙ h)
 ]
 
-module _ (lines : ℕ) (id : Id) (core : Inner) (s : IsSoundInner lines core) where
+module _ (config : RawConfig) (id : Id) (core : HartValue) (s : IsSoundHart config core) where
   -- a step that leaves x0 and the cache, and asks for nothing
-  pub quiet : (after : Inner) → after.registers ≡ core.registers → after.cache ≡ core.cache → after.number ≡ core.number → IsStep lines core.number id (after, None)
+  pub quiet : (after : HartValue) → after.registers ≡ core.registers → after.cache ≡ core.cache → after.number ≡ core.number → IsStep config core.number id (after, None)
   quiet after registers cache number = record {
-    sound = record { zero = ap (λ x. slice_index x 0) registers ∙ s.zero; cache = rw cache s.cache };
+    sound = record {
+      number = rw number s.number;
+      zero = ap (λ x. slice_index x 0) registers ∙ s.zero;
+      cache = rw cache s.cache;
+    };
     same = number;
     ask = tt;
   }
 
-  pub stays : IsStep lines core.number id (core, None)
+  pub stays : IsStep config core.number id (core, None)
   stays = quiet core refl refl refl
 
-  pub gives_step : (rd value cost : ℕ) → IsStep lines core.number id (gives rd value cost core, None)
-  gives_step rd value cost = record { sound = record { zero = zero_kept core.registers rd value s.zero; cache = s.cache }; same = refl; ask = tt }
+  pub gives_step : (rd value cost : ℕ) → IsStep config core.number id (gives rd value cost core, None)
+  gives_step rd value cost = record { sound = record { number = s.number; zero = zero_kept core.registers rd value s.zero; cache = s.cache }; same = refl; ask = tt }
 
-  pub goes_on_step : (cost : ℕ) → IsStep lines core.number id (goes_on cost core, None)
+  pub goes_on_step : (cost : ℕ) → IsStep config core.number id (goes_on cost core, None)
   goes_on_step cost = quiet (goes_on cost core) refl refl refl
 
-  pub trapped_step : (t : ℕ) (trap : Trap) → IsStep lines core.number id (trapped core t trap, None)
+  pub trapped_step : (t : ℕ) (trap : Trap) → IsStep config core.number id (trapped core t trap, None)
   trapped_step t trap = quiet (trapped core t trap) refl refl refl

@@ -1,6 +1,7 @@
 -- Memory accesses: what they do to a core where its cache holds their line, and what they ask for where it doesn't.
 use Rattle.std.specs.Prelude.{ℕ, ◌/◌, ◌%◌, ◌==◌, Bool, true, false, not, ◌||◌, Option, Some, None, if◌then◌else◌}
 use Rattle.std.specs.Option.{option_map}
+use Rattle.slack_base.specs.Growing.{raised}
 use Rattle.slack_base.specs.declared.stamps.Id.{Id}
 use Rattle.slack_base.specs.declared.messages.Ask.{Ask}
 use Rattle.slack_base.specs.declared.messages.Ask.TheVariants.{Read, ReadOwn}
@@ -10,9 +11,9 @@ use Rattle.mesi_cache.specs.declared.lines.Held.{Held}
 use Rattle.mesi_cache.specs.declared.lines.HeldLine.{HeldLine}
 use Rattle.mesi_cache.specs.Words.{word_of}
 use Rattle.mesi_cache.specs.Lines.{held_line, may_write}
-use Rattle.mesi_cache.specs.Caches.{CacheView, line_in, read_line, write_line}
+use Rattle.mesi_cache.specs.Caches.{CacheValue, line_in, read_line, write_line}
 use Rattle.timed_core.specs.Code.{CodeValue, is_in_memory}
-use Rattle.timed_core.specs.Cores.{Inner, raised, gives, goes_on, trapped, line_number}
+use Rattle.timed_core.specs.Cores.{HartValue, gives, goes_on, trapped, line_number}
 use Rattle.timed_core.specs.declared.accesses.Access.{Access}
 use Rattle.timed_core.specs.declared.accesses.Access.TheVariants.{Load, Store, LoadReserved, StoreConditional, Amo}
 
@@ -28,7 +29,7 @@ is_write (Load op rd) = false
 is_write (LoadReserved rd) = false
 is_write _ = true
 
--- a load or LR hits any line that is held, every other access a line that no other cache holds
+-- a load or LR hits any line that is held, every other access a line that may be written
 abbrev pub hits : Access → Held → Bool
 hits access held = not (is_write access) || may_write held
 
@@ -41,25 +42,25 @@ abbrev pub word_in_line : ℕ → ℕ
 word_in_line address = address / 4 % 4
 
 -- the state and the words of a line, if the core's cache holds it
-abbrev pub held_in : CacheView → ℕ → Option HeldLine
+abbrev pub held_in : CacheValue → ℕ → Option HeldLine
 held_in cache line = option_map held_line (line_in cache line)
 
-abbrev pub with_access : Inner → CacheView → Inner
+abbrev pub with_access : HartValue → CacheValue → HartValue
 with_access core cache = record core { cache = cache; counts = record core.counts { accesses = raised core.counts.accesses } }
 
 -- the word of the address is read: its line becomes the most recent of its set
-abbrev pub read_at : (base address : ℕ) → Inner → Inner
+abbrev pub read_at : (base address : ℕ) → HartValue → HartValue
 read_at base address core = with_access core (read_line core.cache (line_number base address))
 
 -- the word of the address is written: its line becomes Modified too
-abbrev pub write_at : (base address value : ℕ) → Inner → Inner
+abbrev pub write_at : (base address value : ℕ) → HartValue → HartValue
 write_at base address value core = with_access core (write_line core.cache (line_number base address) (word_in_line address) value)
 
-abbrev pub with_reservation : Option ℕ → Inner → Inner
+abbrev pub with_reservation : Option ℕ → HartValue → HartValue
 with_reservation reservation core = record core { reservation = reservation }
 
 -- the core after an access that hits, where the word of the address was `old`
-unfoldable pub hit : Access → (base address old cost : ℕ) → Inner → Inner
+unfoldable pub hit : Access → (base address old cost : ℕ) → HartValue → HartValue
 hit (Load op rd) base address old cost core = gives rd (load_of op old (address % 4)) cost (read_at base address core)
 hit (Store op value) base address old cost core =
     goes_on cost (write_at base address (store_of op old (address % 4) value) core)
@@ -68,12 +69,12 @@ hit (StoreConditional rd value) base address old cost core = gives rd 0 cost (wi
 hit (Amo op rd operand) base address old cost core = gives rd old cost (write_at base address (amo_of op old operand) core)
 
 -- a miss changes nothing but that the core waits for the line
-abbrev pub missed : Access → Id → ℕ → Inner → Inner × Option Ask
+abbrev pub missed : Access → Id → ℕ → HartValue → HartValue × Option Ask
 missed access id line core =
     (record core { waiting = true; counts = record core.counts { misses = raised core.counts.misses } }, Some (asked_for access id line))
 
 -- an access to a line of which the cache holds this
-unfoldable pub looked_up : Option HeldLine → Access → (base address cost : ℕ) → Id → Inner → Inner × Option Ask
+unfoldable pub looked_up : Option HeldLine → Access → (base address cost : ℕ) → Id → HartValue → HartValue × Option Ask
 looked_up None access base address cost id core = missed access id (line_number base address) core
 looked_up (Some line) access base address cost id core =
     if hits access line.held then (hit access base address (word_of line.words (word_in_line address)) cost core, None)
@@ -84,11 +85,11 @@ is_reserved None address = false
 is_reserved (Some reserved) address = reserved == address
 
 -- an SC that fails gives 1, and loses the reservation; it accesses nothing
-abbrev pub failed : (rd cost : ℕ) → Inner → Inner
+abbrev pub failed : (rd cost : ℕ) → HartValue → HartValue
 failed rd cost core = gives rd 1 cost (with_reservation None core)
 
 -- an access to memory: an SC fails where its address isn't the reservation, and every other access looks its line up
-unfoldable pub tried : Access → (base address cost : ℕ) → Id → Inner → Inner × Option Ask
+unfoldable pub tried : Access → (base address cost : ℕ) → Id → HartValue → HartValue × Option Ask
 tried (StoreConditional rd value) base address cost id core =
     if is_reserved core.reservation address
     then looked_up (held_in core.cache (line_number base address)) (StoreConditional rd value) base address cost id core
@@ -96,7 +97,7 @@ tried (StoreConditional rd value) base address cost id core =
 tried access base address cost id core = looked_up (held_in core.cache (line_number base address)) access base address cost id core
 
 -- an access: alignment is checked first, then that the address is in memory
-unfoldable pub accessed : CodeValue → Access → (address cost : ℕ) → Id → Inner → Inner × Option Ask
+unfoldable pub accessed : CodeValue → Access → (address cost : ℕ) → Id → HartValue → HartValue × Option Ask
 accessed code access address cost id core =
     if is_aligned access address
     then (if is_in_memory code address then tried access code.base address cost id core

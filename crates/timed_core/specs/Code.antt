@@ -1,9 +1,9 @@
 -- The instruction memory: what fetches read.
 use Rattle.std.specs.Prelude.{ℕ, ◌+◌, ◌-◌, ◌%◌, ◌==◌, ◌&&◌, Bool, List, Option, Some, None, drop, length, nat_le, nat_lt, if◌then◌else◌}
 use Rattle.byteorder.specs.Endian.{little_number}
-use Rattle.memory_image.specs.Memory.{bytes_from}
+use Rattle.first_memory.specs.Memory.{bytes_from}
 use Rattle.slack_base.specs.declared.images.Image.{Image}
-use Rattle.slack_base.specs.declared.limits.RawConfig.{RawConfig}
+use Rattle.slack_base.specs.declared.configs.RawConfig.{RawConfig}
 
 -- the bytes of memory as they were loaded, from an address on
 pub record CodeValue : Type 0 where

@@ -1,39 +1,27 @@
--- A core: what its ticks read and change.
-use Rattle.std.specs.Prelude.{ℕ, ◌+◌, ◌-◌, ◌*◌, ◌/◌, ◌%◌, ◌^◌, ◌==◌, ◌≤◌, Bool, true, false, List, Option, None, min, replicate, slice_set, if◌then◌else◌}
-use Rattle.slack_base.specs.declared.messages.Post.{Post}
+-- A core without the posts that wait for it: what its ticks read and change.
+use Rattle.std.specs.Prelude.{ℕ, ◌+◌, ◌-◌, ◌*◌, ◌/◌, ◌%◌, ◌^◌, ◌==◌, ◌≤◌, Bool, true, false, List, Option, None, replicate, slice_set, if◌then◌else◌}
 use Rattle.slack_base.specs.declared.cores.CoreEnd.{CoreEnd}
 use Rattle.slack_base.specs.declared.cores.CoreEnd.TheVariants.{Running, Exit, Trapped}
 use Rattle.slack_base.specs.declared.cores.Counts.{Counts}
 use Rattle.slack_base.specs.declared.cores.Trap.{Trap}
-use Rattle.slack_base.specs.declared.limits.RawConfig.{RawConfig}
-use Rattle.mesi_cache.specs.Caches.{CacheView, empty_cache}
-
--- a core: all that its ticks read and change, and the posts that wait for it, in order of (due, id)
-pub record CoreValue (Inner : Type 0) : Type 0 where
-  pub inner : Inner
-  pub inbox : List Post
+use Rattle.slack_base.specs.declared.configs.RawConfig.{RawConfig}
+use Rattle.slack_base.specs.Growing.{raised}
+use Rattle.mesi_cache.specs.Caches.{CacheValue, empty_cache}
 
 -- all of a core but its inbox
-pub record Inner : Type 0 where
+pub record HartValue : Type 0 where
   pub number : ℕ
   pub pc : ℕ
   pub registers : List ℕ
   -- the address of the word that LR reserved, until the reservation is lost
   pub reservation : Option ℕ
-  pub cache : CacheView
+  pub cache : CacheValue
   -- the cycles that the last instruction still takes
   pub busy : ℕ
   -- a line was asked for, and the answer hasn't come
   pub waiting : Bool
   pub ended : CoreEnd
   pub counts : Counts
-
--- where counts stop
-abbrev pub top : ℕ
-top = 2 ^ 62
-
-abbrev pub raised : ℕ → ℕ
-raised n = min (n + 1) top
 
 abbrev pub is_running : CoreEnd → Bool
 is_running Running = true
@@ -55,7 +43,7 @@ abbrev pub next_of : ℕ → ℕ
 next_of pc = (pc + 4) % 2 ^ 32
 
 -- the core with its instruction completed
-abbrev pub completed : Inner → (registers : List ℕ) (pc cost : ℕ) → Inner
+abbrev pub completed : HartValue → (registers : List ℕ) (pc cost : ℕ) → HartValue
 completed core registers pc cost = record core {
   pc = pc;
   registers = registers;
@@ -64,15 +52,15 @@ completed core registers pc cost = record core {
 }
 
 -- an instruction that goes on to the next
-abbrev pub goes_on : (cost : ℕ) → Inner → Inner
+abbrev pub goes_on : (cost : ℕ) → HartValue → HartValue
 goes_on cost core = completed core core.registers (next_of core.pc) cost
 
 -- an instruction that writes a register and goes on to the next
-abbrev pub gives : (rd value cost : ℕ) → Inner → Inner
+abbrev pub gives : (rd value cost : ℕ) → HartValue → HartValue
 gives rd value cost core = completed core (with_register core.registers rd value) (next_of core.pc) cost
 
 -- a trap retires nothing, and leaves all but the end
-abbrev pub trapped : Inner → ℕ → Trap → Inner
+abbrev pub trapped : HartValue → ℕ → Trap → HartValue
 trapped core t trap = record core { ended = Trapped t trap }
 
 -- a line is 16 bytes, and lines are numbered from the base of memory on
@@ -86,7 +74,7 @@ first_registers config number =
     slice_set (slice_set (replicate 32 0) 10 number) 2 ((config.base + config.memory - 4096 * number) % 2 ^ 32)
 
 -- a core before the first cycle: its cache is empty, and nothing is waited for
-abbrev pub first_core : RawConfig → (entry number : ℕ) → Inner
+abbrev pub first_core : RawConfig → (entry number : ℕ) → HartValue
 first_core config entry number = record {
   number = number;
   pc = entry;

@@ -5,3 +5,4 @@ pub mod Effects
 pub mod Laws
 pub mod Posts
 pub mod Ticks
+pub mod Touches

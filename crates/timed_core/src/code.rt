@@ -2,7 +2,7 @@
 ghost use Rattle.std.specs.Prelude.{◌≡◌};
 
 use byteorder::{ByteOrder, LittleEndian};
-use memory_image::loaded_bytes;
+use first_memory::loaded_bytes;
 use slack_base::{Config, Image, OutOfMemory};
 use std::alloc::Global;
 use std::marker::Model;

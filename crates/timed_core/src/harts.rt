@@ -1,18 +1,15 @@
 //! A core without its inbox: the hart that executes instructions, and its cache.
 ghost use Rattle.std.specs.Prelude.{◌≡◌, ◌-◌, ◌/◌};
-ghost use Rattle.timed_core.specs.Cores.{raised, line_number};
+ghost use Rattle.timed_core.specs.Cores.{line_number};
 
-mod accesses;
 mod execution;
+mod hits;
 mod posts;
 
 use mesi_cache::{Cache, HeldLine};
-use slack_base::{Config, CoreEnd, Counts, OutOfMemory, Trap};
+use slack_base::{Config, CoreEnd, Counts, OutOfMemory, Trap, raised};
 use std::alloc::Global;
 use std::marker::Model;
-
-/// Where counts stop: 2^62, so that no sum overflows.
-const TOP: u64 = 1 << 62;
 
 /// A hart with its cache. A contract sees the record of its fields.
 #[derive(Drop)]
@@ -32,10 +29,10 @@ pub struct Hart {
 }
 
 impl Model for Hart {
-    ghost use Rattle.std.specs.Prelude.{◌^◌};
-    ghost use Rattle.timed_core.specs.Cores.{Inner, IsBy};
+    ghost use Rattle.slack_base.specs.declared.bounds.TheConstants.{TOP};
+    ghost use Rattle.timed_core.specs.Cores.{HartValue, IsBy};
 
-    ghost Value = { Inner };
+    ghost Value = { HartValue };
 
     ghost view = { λ c. record {
       number = c.number;
@@ -49,14 +46,7 @@ impl Model for Hart {
       counts = c.counts;
     } };
 
-    ghost invariant = { λ c. IsBy (2 ^ 62) c.ended };
-}
-
-/// One more, up to where counts stop.
-fn raised(count: u64) -> u64
-    ensures { result ≡ raised count }
-{
-    count.saturating_add(1).min(TOP)
+    ghost invariant = { λ c. IsBy TOP c.ended };
 }
 
 /// The number of the line of an address, in a memory that begins at `base`.
@@ -67,7 +57,8 @@ fn line_number(base: u32, address: u32) -> u32
 }
 
 impl Hart {
-    ghost use Rattle.std.specs.Prelude.{◌≡◌, ◌+◌, ◌<◌, ◌≤◌, ◌%◌, ◌^◌, IfOk, slice_index};
+    ghost use Rattle.std.specs.Prelude.{◌≡◌, ◌+◌, ◌<◌, ◌≤◌, ◌%◌, IfOk, slice_index};
+    ghost use Rattle.slack_base.specs.declared.bounds.TheConstants.{TOP};
     ghost use Rattle.slack_base.specs.Numbers.{numbers_of};
     ghost use Rattle.timed_core.specs.Accesses.{held_in};
     ghost use Rattle.timed_core.specs.Cores.{IsBy, first_core, is_running, with_register, completed, goes_on, gives, trapped};
@@ -136,7 +127,7 @@ impl Hart {
 
     pub fn end(&self) -> CoreEnd
         ensures end { result ≡ self.now.ended }
-        ensures bound { IsBy (2 ^ 62) result }
+        ensures bound { IsBy TOP result }
     {
         self.ended
     }
@@ -194,7 +185,7 @@ impl Hart {
 
     /// Ends the hart by a trap.
     fn trap(&mut self, cycle: u64, trap: Trap)
-        requires { cycle ≤ 2 ^ 62 }
+        requires { cycle ≤ TOP }
         ensures { self.new ≡ trapped self.old cycle trap }
     {
         self.ended = CoreEnd::Trapped { at: cycle, trap };

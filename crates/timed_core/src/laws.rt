@@ -1,19 +1,19 @@
 //! What is true of every core and every tick, whatever the code.
 ghost use Rattle.timed_core.specs.Laws.{AllPuts, AllStarts, AllTicks};
 
-/// The law of ticks. x0 stays 0; the core keeps its number, and its cache and its posts name lines of memory alone;
-/// of its posts exactly those are left that are due later; and its asks have the ids (t, core, 0), (t, core, 1) and so
-/// on, and name lines of memory alone.
+/// The law of ticks. x0 stays 0; the core keeps its number and its cache the sets and ways of the configuration; its
+/// cache and its posts name lines of memory alone; of its posts exactly those are left that are due later, in their
+/// order; and its asks have the ids (t, core, 0), (t, core, 1) and so on, and name lines of memory alone.
 pub fn law_of_ticks()
     ensures { AllTicks }
 {}
 
-/// A core stays sound where a post that names a line of memory comes in.
+/// A core stays sound, its posts in their order too, where a post that names a line of memory comes in.
 pub fn law_of_puts()
     ensures { AllPuts }
 {}
 
-/// A core is sound before the first cycle.
+/// Each core of a configuration is sound before the first cycle: its cache has the configuration's sets and ways.
 pub fn law_of_starts()
     ensures { AllStarts }
 {}

@@ -1,11 +1,11 @@
 //! A core and its tick.
-ghost use Rattle.std.specs.Prelude.{◌≡◌, ◌≤◌, ◌^◌, ◌++◌, nat_le, nat_lt, filter, OnOk};
+ghost use Rattle.std.specs.Prelude.{◌≡◌, ◌≤◌, ◌++◌, nat_le, nat_lt, filter, OnOk};
 ghost use Rattle.timed_core.specs.Ticks.{asks_of, id_at, applied_all};
 
 use crate::code::Code;
 use crate::harts::Hart;
 use mesi_cache::HeldLine;
-use slack_base::{Ask, AskList, Config, CoreEnd, Counts, Id, OutOfMemory, Post};
+use slack_base::{Ask, AskList, Config, CoreEnd, Counts, Id, OutOfMemory, Post, TOP};
 use stamp_queue::Inbox;
 use std::alloc::Global;
 use std::marker::Model;
@@ -18,20 +18,23 @@ pub struct TimedCore {
 }
 
 impl Model for TimedCore {
-    ghost use Rattle.timed_core.specs.Cores.{CoreValue, Inner};
+    ghost use Rattle.slack_base.specs.Inboxes.{CoreValue};
+    ghost use Rattle.timed_core.specs.Cores.{HartValue};
 
-    ghost Value = { CoreValue Inner };
+    ghost Value = { CoreValue HartValue };
 
     ghost view = { λ c. record { inner = c.hart; inbox = c.inbox } };
 }
 
 impl TimedCore {
-    ghost use Rattle.std.specs.Prelude.{◌≡◌, ◌<◌, ◌≤◌, ◌^◌, ◌++◌, [], IfOk, OnOk, OnErr, not, slice_index};
+    ghost use Rattle.std.specs.Prelude.{◌≡◌, ◌<◌, ◌≤◌, ◌++◌, [], IfOk, OnOk, OnErr, not, slice_index};
     ghost use Rattle.slack_base.specs.Numbers.{numbers_of};
-    ghost use Rattle.stamp_queue.specs.Inbox.{with_post};
+    ghost use Rattle.slack_base.specs.Inboxes.{with_put, tick_by};
+    ghost use Rattle.slack_base.specs.declared.bounds.TheConstants.{TOP};
     ghost use Rattle.timed_core.specs.Accesses.{held_in};
     ghost use Rattle.timed_core.specs.Cores.{IsBy, first_core, is_running};
-    ghost use Rattle.timed_core.specs.Ticks.{tick_of};
+    ghost use Rattle.timed_core.specs.Ticks.{tick};
+    ghost use Rattle.timed_core.specs.Touches.{touched_of};
 
     /// A core before the first cycle, whose pc is `entry`.
     pub fn new(
@@ -88,7 +91,7 @@ impl TimedCore {
     /// Whether the core is running, or how it ended.
     pub fn end(&self) -> CoreEnd
         ensures end { result ≡ self.now.inner.ended }
-        ensures bound { IsBy (2 ^ 62) result }
+        ensures bound { IsBy TOP result }
     {
         self.hart.end()
     }
@@ -116,21 +119,29 @@ impl TimedCore {
 
     /// Puts a post into the inbox, behind those of the same due and id that are there.
     pub fn put(&mut self, post: Post) -> Result<(), OutOfMemory>
-        ensures ok { OnOk result (self.new ≡ record self.old { inbox = with_post self.old.inbox post }) }
+        ensures ok { OnOk result (self.new ≡ with_put post self.old) }
         ensures err { OnErr result (self.new ≡ self.old) }
     {
         self.inbox.put(post)
+    }
+
+    /// The cycle from which on the core touched no more what the post is about: nothing is known of it, so it is the
+    /// greatest, `TOP`. It takes no memory.
+    pub fn touched(&self, _post: &Post) -> u64
+        ensures { result ≡ touched_of self.now.inner _post.now }
+    {
+        TOP
     }
 
     /// One tick at a cycle: the posts that are due are applied in their order, and then the core does nothing if it
     /// has ended, spends a cycle if it is busy or waits for a line, and else executes an instruction. The asks that
     /// it sends are appended, numbered from 0. `code` is the instruction memory of the core's machine, and tells which
     /// addresses are in memory too. After want of memory the core may be changed in part, and is only to be dropped.
-    #[tactic(auto, unfolding(crate::specs::Ticks::tick_of, crate::specs::Ticks::tick))]
+    #[tactic(auto, unfolding(crate::specs::Ticks::tick))]
     pub fn tick(&mut self, code: &Code, cycle: u64, out: &mut AskList) -> Result<(), OutOfMemory>
-        requires { cycle ≤ 2 ^ 62 }
-        ensures core { OnOk result (self.new ≡ (tick_of code.now cycle self.old).0) }
-        ensures asks { OnOk result (out.new ≡ out.old ++ (tick_of code.now cycle self.old).1) }
+        requires { cycle ≤ TOP }
+        ensures core { OnOk result (self.new ≡ (tick_by (tick code.now) cycle self.old).0) }
+        ensures asks { OnOk result (out.new ≡ out.old ++ (tick_by (tick code.now) cycle self.old).1) }
     {
         let before = out.len();
         apply_due(&mut self.hart, &mut self.inbox, code.base(), cycle, out)?;

@@ -1,5 +1,6 @@
 //! What a hart does in a cycle after its posts are applied.
-ghost use Rattle.std.specs.Prelude.{◌≡◌, ◌≤◌, ◌^◌};
+ghost use Rattle.std.specs.Prelude.{◌≡◌, ◌≤◌};
+ghost use Rattle.slack_base.specs.declared.bounds.TheConstants.{TOP};
 ghost use Rattle.rv_decode.specs.Decoding.{instr_of};
 ghost use Rattle.timed_core.specs.Code.{word_at};
 ghost use Rattle.timed_core.specs.Effects.{NamesRegister};
@@ -7,16 +8,16 @@ ghost use Rattle.timed_core.specs.Ticks.{called, performed, decoded, fetched, st
 
 use crate::code::Code;
 use crate::effects::{Effect, cost};
-use crate::harts::{Hart, raised};
+use crate::harts::Hart;
 use rv_decode::decode;
-use slack_base::{Ask, CoreEnd, Id, Trap};
+use slack_base::{Ask, CoreEnd, Id, Trap, raised};
 
 impl Hart {
     /// Does nothing once the hart has ended, spends a cycle while it is busy or waits, and else executes an
     /// instruction. What is asked for has this id.
     #[tactic(auto, unfolding(crate::specs::Ticks::stepped))]
     pub fn step(&mut self, code: &Code, id: Id) -> Option<Ask>
-        requires { id.cycle ≤ 2 ^ 62 }
+        requires { id.cycle ≤ TOP }
         ensures after { self.new ≡ (stepped code.now id self.old).0 }
         ensures ask { result ≡ (stepped code.now id self.old).1 }
     {
@@ -37,7 +38,7 @@ impl Hart {
     /// Fetches the word at pc and executes it.
     #[tactic(auto, unfolding(crate::specs::Ticks::fetched))]
     fn fetch(&mut self, code: &Code, id: Id) -> Option<Ask>
-        requires { id.cycle ≤ 2 ^ 62 }
+        requires { id.cycle ≤ TOP }
         ensures after { self.new ≡ (fetched code.now (word_at code.now self.old.pc) id self.old).0 }
         ensures ask { result ≡ (fetched code.now (word_at code.now self.old.pc) id self.old).1 }
     {
@@ -51,7 +52,7 @@ impl Hart {
     /// Executes the instruction that the word stands for.
     #[tactic(auto, unfolding(crate::specs::Ticks::decoded))]
     fn execute(&mut self, code: &Code, bits: u32, id: Id) -> Option<Ask>
-        requires { id.cycle ≤ 2 ^ 62 }
+        requires { id.cycle ≤ TOP }
         ensures after { self.new ≡ (decoded code.now (instr_of bits) bits id self.old).0 }
         ensures ask { result ≡ (decoded code.now (instr_of bits) bits id self.old).1 }
     {
@@ -66,7 +67,7 @@ impl Hart {
     /// Completes an instruction of this effect and cost, waits for its line, or ends the hart by its trap.
     #[tactic(auto, unfolding(crate::specs::Ticks::performed))]
     fn perform(&mut self, code: &Code, effect: Effect, cost: u32, id: Id) -> Option<Ask>
-        requires top { id.cycle ≤ 2 ^ 62 }
+        requires top { id.cycle ≤ TOP }
         requires register { NamesRegister effect }
         requires some { 1 ≤ cost }
         ensures after { self.new ≡ (performed code.now effect cost id self.old).0 }
@@ -92,7 +93,7 @@ impl Hart {
     /// Calls the service that x17 names.
     #[tactic(auto, unfolding(crate::specs::Ticks::called))]
     fn call(&mut self, cost: u32, id: Id) -> Option<Ask>
-        requires top { id.cycle ≤ 2 ^ 62 }
+        requires top { id.cycle ≤ TOP }
         requires some { 1 ≤ cost }
         ensures after { self.new ≡ (called cost id self.old).0 }
         ensures ask { result ≡ (called cost id self.old).1 }

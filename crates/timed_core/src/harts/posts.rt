@@ -4,9 +4,9 @@ ghost use Rattle.timed_core.specs.Posts.{without_reservation, written_back, evic
 ghost use Rattle.mesi_cache.specs.Caches.{line_in};
 ghost use Rattle.std.specs.Option.{option_map};
 
-use crate::harts::{Hart, line_number, raised};
+use crate::harts::{Hart, line_number};
 use mesi_cache::{Held, Victim};
-use slack_base::{Ask, Id, PostKind, Words};
+use slack_base::{Ask, Id, PostKind, Words, raised};
 
 impl Hart {
     /// Applies a post about a line: what is asked for then, with this id.

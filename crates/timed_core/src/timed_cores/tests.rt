@@ -21,14 +21,10 @@ use std::test::Fail;
 
 /// lui x8, 2
 const LUI_X8: u32 = 0x0000_2437;
-/// addi x8, x0, 1
-const ADDI_X8: u32 = 0x0010_0413;
 /// lw x5, 4(x8)
 const LW_X5: u32 = 0x0044_2283;
 /// lw x5, 16(x8)
 const LW_NEXT_LINE: u32 = 0x0104_2283;
-/// lw x5, 0(x0)
-const LW_AT_0: u32 = 0x0000_2283;
 /// sw x8, 0(x8)
 const SW_X8: u32 = 0x0084_2023;
 /// sw x8, 4(x8)
@@ -37,8 +33,6 @@ const SW_SECOND: u32 = 0x0084_2223;
 const LR_X5: u32 = 0x1004_22af;
 /// sc.w x6, x8, (x8)
 const SC_X6: u32 = 0x1884_232f;
-/// sc.w x6, x8, (x0)
-const SC_AT_0: u32 = 0x1880_232f;
 /// amoadd.w x5, x8, (x8)
 const AMOADD_X5: u32 = 0x0084_22af;
 
@@ -58,15 +52,7 @@ fn config(ways: u32) -> Result<Config, ConfigFault>
         memory: 8192,
         sets: 1,
         ways,
-        buses: 1,
-        snoop: 2,
-        memory_delay: 10,
-        transfer: 3,
-        occupancy: 2,
-        slack: 8,
-        interval: 1000,
-        limit: 1000,
-        quantum: 0,
+        ..RawConfig::DEFAULT
     })
 }
 
@@ -152,15 +138,14 @@ fn post(due: u64, line: u32, kind: PostKind) -> Post {
     }
 }
 
+/// A reply that makes the line Exclusive.
+const REPLY: PostKind = PostKind::Reply {
+    exclusive: true,
+    words: WORDS,
+};
+
 fn reply(due: u64, line: u32) -> Post {
-    post(
-        due,
-        line,
-        PostKind::Reply {
-            exclusive: true,
-            words: WORDS,
-        },
-    )
+    post(due, line, REPLY)
 }
 
 /// The last ask that was sent.
@@ -219,26 +204,30 @@ fn a_modified_victim_is_sent_back(rt: HostRuntime) -> Result<(), Fail> {
     Ok(())
 }
 
-/// What a post between LR and SC does: x6, the reservation, and how many instructions, hits and asks there were.
+/// A post about a line between LR and SC; and x6, the reservation, and how many instructions, hits and asks there were
+/// after the SC.
+type Between = (u32, PostKind, u32, Option<u32>, u64, u64, usize);
+
+const BETWEEN: [Between; 7] = [
+    (256, PostKind::Retry, 0, None, 3, 2, 1),
+    (256, PostKind::Invalidate, 1, None, 3, 1, 1),
+    (257, PostKind::Invalidate, 0, None, 3, 2, 1),
+    (256, PostKind::SnoopOwn, 1, None, 3, 1, 2),
+    (257, PostKind::SnoopOwn, 0, None, 3, 2, 2),
+    (256, PostKind::SnoopShare, 0, Some(8192), 2, 1, 3),
+    (257, REPLY, 1, None, 3, 1, 1),
+];
+
 #[test]
 fn what_comes_between_lr_and_sc(rt: HostRuntime) -> Result<(), Fail> {
-    let rows = [
-        (post(3, 256, PostKind::Retry), 0, None, 3, 2, 1),
-        (post(3, 256, PostKind::Invalidate), 1, None, 3, 1, 1),
-        (post(3, 257, PostKind::Invalidate), 0, None, 3, 2, 1),
-        (post(3, 256, PostKind::SnoopOwn), 1, None, 3, 1, 2),
-        (post(3, 257, PostKind::SnoopOwn), 0, None, 3, 2, 2),
-        (post(3, 256, PostKind::SnoopShare), 0, Some(8192), 2, 1, 3),
-        (reply(3, 257), 1, None, 3, 1, 1),
-    ];
-    for (between, value, reservation, retired, accesses, asks) in rows {
-        let posts = [reply(2, 256), between];
+    for (line, kind, value, reservation, retired, accesses, asks) in BETWEEN {
+        let posts = [reply(2, 256), post(3, line, kind)];
         let seen = run(&rt, rt.alloc(), &[LUI_X8, LR_X5, SC_X6], &posts, 4)?;
-        assert_eq!(rt; seen.core.reg(6), value, "{between:?}");
-        assert_eq!(rt; seen.core.reservation(), reservation, "{between:?}");
-        assert_eq!(rt; seen.core.counts().retired, retired, "{between:?}");
-        assert_eq!(rt; seen.core.counts().accesses, accesses, "{between:?}");
-        assert_eq!(rt; seen.asks.len(), asks, "{between:?}");
+        assert_eq!(rt; seen.core.reg(6), value, "{kind:?}");
+        assert_eq!(rt; seen.core.reservation(), reservation, "{kind:?}");
+        assert_eq!(rt; seen.core.counts().retired, retired, "{kind:?}");
+        assert_eq!(rt; seen.core.counts().accesses, accesses, "{kind:?}");
+        assert_eq!(rt; seen.asks.len(), asks, "{kind:?}");
     }
     Ok(())
 }
@@ -287,23 +276,5 @@ fn an_amo_reads_and_writes(rt: HostRuntime) -> Result<(), Fail> {
     assert_eq!(rt; seen.core.reg(5), 11);
     assert_eq!(rt; seen.core.held(256), Some(held));
     assert!(rt; seen.core.is_running());
-    Ok(())
-}
-
-/// Alignment is checked before memory, and both before the reservation.
-#[test]
-fn wrong_addresses_trap(rt: HostRuntime) -> Result<(), Fail> {
-    let rows = [
-        ([ADDI_X8, LW_X5], Trap::Misaligned { address: 5 }),
-        ([ADDI_X8, LW_AT_0], Trap::Outside { address: 0 }),
-        ([ADDI_X8, SC_X6], Trap::Misaligned { address: 1 }),
-        ([ADDI_X8, SC_AT_0], Trap::Outside { address: 0 }),
-    ];
-    for (words, trap) in rows {
-        let seen = run(&rt, rt.alloc(), &words, &[], 3)?;
-        assert_eq!(rt; seen.core.end(), CoreEnd::Trapped { at: 1, trap });
-        assert_eq!(rt; seen.core.counts().retired, 1);
-        assert!(rt; seen.core.has_ended());
-    }
     Ok(())
 }

@@ -50,13 +50,58 @@ enum Outcome {
 /// The base of x8, what is added to it, and what the access does at that address.
 type Row = (u32, u32, Outcome);
 
-fn outside(address: u32) -> Outcome {
-    Outcome::Traps(Trap::Outside { address })
+/// Accesses and whether each writes, and what they do at addresses beside and at the ends of memory.
+struct Table {
+    accesses: &'static [(u32, bool)],
+    rows: &'static [Row],
 }
 
-fn misaligned(address: u32) -> Outcome {
-    Outcome::Traps(Trap::Misaligned { address })
-}
+/// Bytes, halves and words; and an SC that isn't reserved, which traps too where its address is wrong.
+#[rattlefmt::skip]
+const TABLES: [Table; 4] = [
+    Table {
+        accesses: &[(LB, false), (LBU, false), (SB, true)],
+        rows: &[
+            (LUI_4096, LESS_1, Outcome::Traps(Trap::Outside { address: 4095 })),
+            (LUI_4096, SAME, Outcome::Asks(0)),
+            (LUI_12288, LESS_1, Outcome::Asks(511)),
+            (LUI_12288, SAME, Outcome::Traps(Trap::Outside { address: 12288 })),
+        ],
+    },
+    Table {
+        accesses: &[(LH, false), (LHU, false), (SH, true)],
+        rows: &[
+            (LUI_4096, LESS_2, Outcome::Traps(Trap::Outside { address: 4094 })),
+            (LUI_4096, LESS_1, Outcome::Traps(Trap::Misaligned { address: 4095 })),
+            (LUI_4096, SAME, Outcome::Asks(0)),
+            (LUI_4096, MORE_1, Outcome::Traps(Trap::Misaligned { address: 4097 })),
+            (LUI_12288, LESS_2, Outcome::Asks(511)),
+            (LUI_12288, LESS_1, Outcome::Traps(Trap::Misaligned { address: 12287 })),
+            (LUI_12288, SAME, Outcome::Traps(Trap::Outside { address: 12288 })),
+        ],
+    },
+    Table {
+        accesses: &[(LW, false), (LR, false), (SW, true), (AMOADD, true)],
+        rows: &[
+            (LUI_4096, LESS_4, Outcome::Traps(Trap::Outside { address: 4092 })),
+            (LUI_4096, LESS_1, Outcome::Traps(Trap::Misaligned { address: 4095 })),
+            (LUI_4096, SAME, Outcome::Asks(0)),
+            (LUI_4096, MORE_2, Outcome::Traps(Trap::Misaligned { address: 4098 })),
+            (LUI_12288, LESS_4, Outcome::Asks(511)),
+            (LUI_12288, LESS_2, Outcome::Traps(Trap::Misaligned { address: 12286 })),
+            (LUI_12288, SAME, Outcome::Traps(Trap::Outside { address: 12288 })),
+        ],
+    },
+    Table {
+        accesses: &[(SC_X6, true)],
+        rows: &[
+            (LUI_4096, LESS_4, Outcome::Traps(Trap::Outside { address: 4092 })),
+            (LUI_4096, LESS_1, Outcome::Traps(Trap::Misaligned { address: 4095 })),
+            (LUI_12288, LESS_2, Outcome::Traps(Trap::Misaligned { address: 12286 })),
+            (LUI_12288, SAME, Outcome::Traps(Trap::Outside { address: 12288 })),
+        ],
+    },
+];
 
 /// The access is executed in cycle 2.
 fn check(rt: &impl Abort, alloc: Global, access: u32, owns: bool, row: Row) -> Result<(), Fail> {
@@ -82,71 +127,20 @@ fn check(rt: &impl Abort, alloc: Global, access: u32, owns: bool, row: Row) -> R
 }
 
 #[test]
-fn bytes_at_the_ends_of_memory(rt: HostRuntime) -> Result<(), Fail> {
-    let rows = [
-        (LUI_4096, LESS_1, outside(4095)),
-        (LUI_4096, SAME, Outcome::Asks(0)),
-        (LUI_12288, LESS_1, Outcome::Asks(511)),
-        (LUI_12288, SAME, outside(12288)),
-    ];
-    for row in rows {
-        for (access, owns) in [(LB, false), (LBU, false), (SB, true)] {
-            check(&rt, rt.alloc(), access, owns, row)?;
+fn accesses_at_the_ends_of_memory(rt: HostRuntime) -> Result<(), Fail> {
+    for table in &TABLES {
+        for (access, owns) in table.accesses {
+            for row in table.rows {
+                check(&rt, rt.alloc(), *access, *owns, *row)?;
+            }
         }
     }
     Ok(())
 }
 
-#[test]
-fn halves_at_the_ends_of_memory(rt: HostRuntime) -> Result<(), Fail> {
-    let rows = [
-        (LUI_4096, LESS_2, outside(4094)),
-        (LUI_4096, LESS_1, misaligned(4095)),
-        (LUI_4096, SAME, Outcome::Asks(0)),
-        (LUI_4096, MORE_1, misaligned(4097)),
-        (LUI_12288, LESS_2, Outcome::Asks(511)),
-        (LUI_12288, LESS_1, misaligned(12287)),
-        (LUI_12288, SAME, outside(12288)),
-    ];
-    for row in rows {
-        for (access, owns) in [(LH, false), (LHU, false), (SH, true)] {
-            check(&rt, rt.alloc(), access, owns, row)?;
-        }
-    }
-    Ok(())
-}
-
-#[test]
-fn words_at_the_ends_of_memory(rt: HostRuntime) -> Result<(), Fail> {
-    let rows = [
-        (LUI_4096, LESS_4, outside(4092)),
-        (LUI_4096, LESS_1, misaligned(4095)),
-        (LUI_4096, SAME, Outcome::Asks(0)),
-        (LUI_4096, MORE_2, misaligned(4098)),
-        (LUI_12288, LESS_4, Outcome::Asks(511)),
-        (LUI_12288, LESS_2, misaligned(12286)),
-        (LUI_12288, SAME, outside(12288)),
-    ];
-    for row in rows {
-        for (access, owns) in [(LW, false), (LR, false), (SW, true), (AMOADD, true)] {
-            check(&rt, rt.alloc(), access, owns, row)?;
-        }
-    }
-    Ok(())
-}
-
-/// An SC that isn't reserved traps too, where its address is wrong.
+/// An SC that isn't reserved fails where its address is right.
 #[test]
 fn an_sc_at_the_ends_of_memory(rt: HostRuntime) -> Result<(), Fail> {
-    let wrong = [
-        (LUI_4096, LESS_4, outside(4092)),
-        (LUI_4096, LESS_1, misaligned(4095)),
-        (LUI_12288, LESS_2, misaligned(12286)),
-        (LUI_12288, SAME, outside(12288)),
-    ];
-    for row in wrong {
-        check(&rt, rt.alloc(), SC_X6, true, row)?;
-    }
     for (base, more) in [(LUI_4096, SAME), (LUI_12288, LESS_4)] {
         let seen = run(&rt, rt.alloc(), &[base, more, SC_X6], &[], 3)?;
         assert_eq!(rt; seen.core.reg(6), 1);

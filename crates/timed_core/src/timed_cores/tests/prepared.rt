@@ -49,11 +49,6 @@ pub const FIRST: Option<Ask> = Some(Ask::Read {
     line: 256,
 });
 
-/// What a cache that holds the line in this state, with these words, is seen to hold.
-pub fn held(held: Held, words: Words) -> Option<HeldLine> {
-    Some(HeldLine { held, words })
-}
-
 /// A load, or LR where there is to be a reservation, is at 4100, misses in cycle 1 and hits in cycle 2; a store in
 /// cycle 3 makes the line Modified. `last` is executed in cycle 4: it is at 4112 where the line isn't to be held, and
 /// at 4108 where it is.

@@ -1,6 +1,7 @@
 use Rattle.std.proofs.Common.{◌≡◌, ◌∙◌, ◌-◌, ◌++◌, length, subst, ap}
 use Rattle.std.proofs.lemmas.Result.{on_ok_weaker}
-use Rattle.timed_core.specs.Cores.{CoreValue, Inner}
+use Rattle.slack_base.specs.Inboxes.{CoreValue}
+use Rattle.timed_core.specs.Cores.{HartValue}
 use Rattle.timed_core.specs.Ticks.{stepped, asks_of, id_at}
 use Rattle.timed_core.proofs.Due.{IsDone, IsTicked, ticked}
 use Rattle.timed_core.proofs.timed_cores.TimedCore.tick.Goals as goal
@@ -9,7 +10,7 @@ whole : (c : goal.After-send) → IsTicked c.args.code.now c.args.cycle c.args.s
 whole c =
     let code = c.args.code.now in
     let t = c.args.cycle in
-    let first : CoreValue Inner = record { inner = c.self.inside.hart; inbox = c.self.inside.inbox } in
+    let first : CoreValue HartValue = record { inner = c.self.inside.hart; inbox = c.self.inside.inbox } in
     let hart = c.apply_due.new.hart in
     let left = c.apply_due.new.inbox in
     let sent = c.args.out.now in

@@ -1,16 +1,19 @@
--- A cache that holds only lines below a bound goes on to, whatever is done to it.
-use Rattle.std.proofs.Common.{◌≡◌, ℕ, ◌<◌, Bool, true, false, not, List, [], ◌∷◌, Option, None, Some, length, filter, map, get_or, slice_get, refl, sym, subst, inl, inr, cond}
+-- A cache keeps its sets and ways, and one that holds only lines below a bound goes on to, whatever is done to it.
+use Rattle.std.proofs.Common.{◌≡◌, ℕ, ◌<◌, Bool, true, false, not, List, [], ◌∷◌, Option, None, Some, length, filter, map, get_or, slice_get, refl, sym, subst, inl, inr, cond, ◌∙◌, length-set}
 use Rattle.std.specs.List.{All}
 use Rattle.std.specs.Option.{IfSome}
 use Rattle.std.proofs.Math.ListN.{get_or-eq_default}
 use Rattle.std.proofs.lemmas.Bool.{cases_lt}
 use Rattle.std.proofs.lemmas.List.Elements.{All-nil, All-cons, All-append, All-get_or, All-replicate, All-set, All-take, All-map, All-weaker, All-filter}
+use Rattle.std.proofs.lemmas.List.{length-replicate}
 use Rattle.std.proofs.lemmas.Option.{slice_get_within, get_or_from_slice_get}
+use Rattle.slack_base.specs.Numbers.{lines_of}
+use Rattle.slack_base.specs.declared.configs.RawConfig.{RawConfig}
 use Rattle.mesi_cache.specs.declared.lines.CacheLine.{CacheLine}
 use Rattle.mesi_cache.specs.Lines.{shared, written}
 use Rattle.mesi_cache.specs.Sets.{is_line, others, to_front, fill_set, fallen, snoop_set}
-use Rattle.mesi_cache.specs.Caches.{CacheView, empty_cache, set_number, set_of, with_set, read_line, write_line, fill_line, victim_of, snoop_line}
-use Rattle.timed_core.specs.Laws.{HoldsBelow}
+use Rattle.mesi_cache.specs.Caches.{CacheValue, empty_cache, set_number, set_of, with_set, read_line, write_line, fill_line, victim_of, snoop_line}
+use Rattle.timed_core.specs.Laws.{HoldsBelow, IsCacheOf}
 
 module _ {X : Type 0} (P : X → Type 0) where
   -- an element is read, or what is read past the end
@@ -63,26 +66,39 @@ module _ (lines : ℕ) where
   snoop_below line false s h = changed_below (λ l. cond (is_line line l) (shared l) l) (shared_line line) s h
 
   -- the set where a line belongs
-  its_set : (c : CacheView) (line : ℕ) → HoldsBelow lines c → AllBelow (set_of c line)
+  its_set : (c : CacheValue) (line : ℕ) → HoldsBelow lines c → AllBelow (set_of c line)
   its_set c line h = all_read AllBelow c.sets (set_number c line) [] (All-nil IsBelow) h
 
-  set_put : (c : CacheView) (line : ℕ) (s : List CacheLine) → HoldsBelow lines c → AllBelow s → HoldsBelow lines (with_set c line s)
-  set_put c line s h low = All-set AllBelow c.sets (set_number c line) s low h
+module _ (config : RawConfig) where
+  abbrev Below : List CacheLine → Type 0
+  Below s = AllBelow (lines_of config) s
 
-  pub read_holds : (c : CacheView) (line : ℕ) → HoldsBelow lines c → HoldsBelow lines (read_line c line)
-  read_holds c line h = set_put c line _ h (front_below (λ l. l) (λ l. refl) line (set_of c line) (its_set c line h))
+  set_put : (c : CacheValue) (line : ℕ) (s : List CacheLine) → IsCacheOf config c → Below s → IsCacheOf config (with_set c line s)
+  set_put c line s h low = record {
+    shape = record { number_of_sets = length-set c.sets (set_number c line) s ∙ h.shape.number_of_sets; number_of_ways = h.shape.number_of_ways };
+    lines = All-set (AllBelow (lines_of config)) c.sets (set_number c line) s low h.lines;
+  }
 
-  pub write_holds : (c : CacheView) (line place value : ℕ) → HoldsBelow lines c → HoldsBelow lines (write_line c line place value)
-  write_holds c line place value h = set_put c line _ h (front_below (written place value) (λ l. refl) line (set_of c line) (its_set c line h))
+  own_set : (c : CacheValue) (line : ℕ) → IsCacheOf config c → Below (set_of c line)
+  own_set c line h = its_set (lines_of config) c line h.lines
 
-  pub fill_holds : (c : CacheView) (new : CacheLine) → new.line < lines → HoldsBelow lines c → HoldsBelow lines (fill_line c new)
-  fill_holds c new low h = set_put c new.line _ h (fill_below c.ways new (set_of c new.line) low (its_set c new.line h))
+  pub read_holds : (c : CacheValue) (line : ℕ) → IsCacheOf config c → IsCacheOf config (read_line c line)
+  read_holds c line h = set_put c line _ h (front_below (lines_of config) (λ l. l) (λ l. refl) line (set_of c line) (own_set c line h))
 
-  pub snoop_holds : (c : CacheView) (line : ℕ) (own : Bool) → HoldsBelow lines c → HoldsBelow lines (snoop_line c line own)
-  snoop_holds c line own h = set_put c line _ h (snoop_below line own (set_of c line) (its_set c line h))
+  pub write_holds : (c : CacheValue) (line place value : ℕ) → IsCacheOf config c → IsCacheOf config (write_line c line place value)
+  write_holds c line place value h = set_put c line _ h (front_below (lines_of config) (written place value) (λ l. refl) line (set_of c line) (own_set c line h))
 
-  pub victim_below : (c : CacheView) (new : CacheLine) → new.line < lines → HoldsBelow lines c → IfSome (victim_of c new) (λ l. l.line < lines)
-  victim_below c new low h = fallen_below c.ways new (set_of c new.line) low (its_set c new.line h)
+  pub fill_holds : (c : CacheValue) (new : CacheLine) → new.line < lines_of config → IsCacheOf config c → IsCacheOf config (fill_line c new)
+  fill_holds c new low h = set_put c new.line _ h (fill_below (lines_of config) c.ways new (set_of c new.line) low (own_set c new.line h))
 
-  pub empty_holds : (sets ways : ℕ) → HoldsBelow lines (empty_cache sets ways)
-  empty_holds sets ways = All-replicate AllBelow sets [] (All-nil IsBelow)
+  pub snoop_holds : (c : CacheValue) (line : ℕ) (own : Bool) → IsCacheOf config c → IsCacheOf config (snoop_line c line own)
+  snoop_holds c line own h = set_put c line _ h (snoop_below (lines_of config) line own (set_of c line) (own_set c line h))
+
+  pub victim_below : (c : CacheValue) (new : CacheLine) → new.line < lines_of config → IsCacheOf config c → IfSome (victim_of c new) (λ l. l.line < lines_of config)
+  victim_below c new low h = fallen_below (lines_of config) c.ways new (set_of c new.line) low (own_set c new.line h)
+
+  pub empty_holds : IsCacheOf config (empty_cache config.sets config.ways)
+  empty_holds = record {
+    shape = record { number_of_sets = length-replicate config.sets []; number_of_ways = refl };
+    lines = All-replicate (AllBelow (lines_of config)) config.sets [] (All-nil (IsBelow (lines_of config)));
+  }

@@ -1,18 +1,18 @@
-//! The accesses of a hart to memory.
-ghost use Rattle.std.specs.Prelude.{◌≡◌, ◌≤◌, ◌<◌, ◌%◌, ◌^◌, Some, IsSome, IsSomeAnd, IsTrue};
+//! What an access to memory does to a hart: it hits or misses its line, fails or ends the hart.
+ghost use Rattle.std.specs.Prelude.{◌≡◌, ◌≤◌, ◌<◌, ◌%◌, Some, IsSome, IsSomeAnd, IsTrue};
+ghost use Rattle.slack_base.specs.declared.bounds.TheConstants.{TOP};
 ghost use Rattle.mesi_cache.specs.Caches.{line_in};
 ghost use Rattle.mesi_cache.specs.Lines.{may_write};
-ghost use Rattle.mesi_cache.specs.Words.{word_of};
 ghost use Rattle.timed_core.specs.Accesses.{is_aligned, hits, word_in_line, held_in, read_at, write_at, hit, missed, looked_up, failed, tried, accessed};
 ghost use Rattle.timed_core.specs.Cores.{line_number};
 ghost use Rattle.timed_core.specs.Effects.{WritesRegister};
 
 use crate::accesses::Access;
 use crate::code::Code;
-use crate::harts::{Hart, line_number, raised};
-use mesi_cache::HeldLine;
+use crate::harts::{Hart, line_number};
+use mesi_cache::{HeldLine, word_at};
 use rv_exec::{amo_result, load_part, store_part};
-use slack_base::{Ask, Id, Trap, Words};
+use slack_base::{Ask, Id, Trap, raised};
 
 /// Which of the four words of its line an address is in.
 fn word_in_line(address: u32) -> u32
@@ -20,19 +20,6 @@ fn word_in_line(address: u32) -> u32
     ensures within { result < 4 }
 {
     address / 4 % 4
-}
-
-/// The word at a place, 0 to 3.
-fn word_at(words: &Words, place: u32) -> u32
-    requires { place < 4 }
-    ensures { result ≡ word_of words.now place }
-{
-    match place {
-        0 => words.w0,
-        1 => words.w1,
-        2 => words.w2,
-        _ => words.w3,
-    }
 }
 
 impl Hart {
@@ -47,7 +34,7 @@ impl Hart {
         cost: u32,
         id: Id,
     ) -> Option<Ask>
-        requires top { id.cycle ≤ 2 ^ 62 }
+        requires top { id.cycle ≤ TOP }
         requires register { WritesRegister access }
         requires some { 1 ≤ cost }
         ensures after { self.new ≡ (accessed code.now access address cost id self.old).0 }
