@@ -1,11 +1,2 @@
-pub mod InPlace
-pub mod Numbered
-pub mod Ticking
-pub mod Serving
-pub mod Delivery
-pub mod FirstState
-pub mod Lawful
-pub mod Stored
-pub mod Targets
-pub mod Lockstep
-pub mod Running
+mod FirstState
+pub mod Views

@@ -1,13 +1,9 @@
-//! The machine that is simulated, cycle by cycle.
+//! The RISC-V machine: its cores and channels as a target, and its state before the first cycle.
 #![tactic(auto)]
 
-pub mod cycles;
-pub mod laws;
-pub mod machine;
-pub mod runs;
+pub mod rules;
+pub mod rv_targets;
 pub mod starting;
 
-pub use cycles::{all_have_ended, cycle, run_to, stopped};
-pub use machine::{ChanList, CoreList, Machine, RvTarget};
-pub use runs::run;
-pub use starting::start;
+pub use rv_targets::RvTarget;
+pub use starting::{Machine, start};

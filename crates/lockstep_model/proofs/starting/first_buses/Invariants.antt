@@ -3,8 +3,8 @@ use Rattle.std.specs.List.{range_with_len}
 use Rattle.slack_base.specs.Numbers.{numbers_of}
 use Rattle.bus_model.specs.Channels.{AsBus}
 use Rattle.bus_model.specs.Starting.{first_bus}
-use Rattle.lockstep_model.specs.Numbered.{AllNumbered}
-use Rattle.lockstep_model.specs.Proper.{IsChannelOf}
+use Rattle.target_law.specs.Numbered.{AllNumbered}
+use Rattle.lockstep_model.specs.Start.{IsFirstChannel}
 use Rattle.lockstep_model.proofs.starting.first_buses.Given as goal
 
 -- the buses so far
@@ -12,5 +12,5 @@ abbrev pub invariant-loop-number : goal.invariant-loop-number
 invariant-loop-number l =
     record {
       chans : l.chans ≡ map (λ number. AsBus (first_bus (numbers_of l.config) l.image number)) (range_with_len 0 l.number);
-      sound : AllNumbered (IsChannelOf (numbers_of l.config)) 0 l.chans;
+      each : AllNumbered (IsFirstChannel (numbers_of l.config)) 0 l.chans;
     }

@@ -1,7 +1,7 @@
 use Rattle.std.proofs.Common.{◌∙◌, ◌++◌, ◌∷◌, [], sym, ap, arith}
 use Rattle.std.proofs.lemmas.List.FromFn.{map-range_with_len_more}
 use Rattle.slack_base.specs.Numbers.{numbers_of}
-use Rattle.lockstep_model.specs.Machine.{first_core_value}
+use Rattle.lockstep_model.specs.Start.{first_core_value}
 use Rattle.lockstep_model.proofs.starting.first_cores.Goals as goal
 
 pub loop-number-preserved : goal.loop-number-preserved

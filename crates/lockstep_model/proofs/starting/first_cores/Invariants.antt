@@ -1,7 +1,7 @@
 use Rattle.std.proofs.Common.{◌≡◌, map}
 use Rattle.std.specs.List.{range_with_len}
 use Rattle.slack_base.specs.Numbers.{numbers_of}
-use Rattle.lockstep_model.specs.Machine.{first_core_value}
+use Rattle.lockstep_model.specs.Start.{first_core_value}
 use Rattle.lockstep_model.proofs.starting.first_cores.Given as goal
 
 -- the cores so far

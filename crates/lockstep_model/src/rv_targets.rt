@@ -1,29 +1,14 @@
-//! The machine, and what it runs.
+//! What a RISC-V machine runs.
 ghost use Rattle.std.specs.Prelude.{◌≡◌, length, IfOk};
 ghost use Rattle.slack_base.specs.Images.{Fits};
 ghost use Rattle.slack_base.specs.Numbers.{numbers_of};
 ghost use Rattle.timed_core.specs.Code.{code_of};
 
-use bus_model::Channel;
-use slack_base::{Config, Image, OutOfMemory, Row};
+use slack_base::{Config, Image, OutOfMemory};
 use std::alloc::Global;
-use timed_core::{Code, TimedCore};
+use timed_core::Code;
 
-/// The cores of a machine, by number.
-pub type CoreList = Row<TimedCore>;
-/// The channels of a machine, by number: the buses, and the console after them.
-pub type ChanList = Row<Channel>;
-
-/// The state of a machine.
-#[derive(Drop)]
-pub struct Machine {
-    /// The cycle that comes next.
-    pub clock: u64,
-    pub cores: CoreList,
-    pub chans: ChanList,
-}
-
-/// What a machine runs: its configuration and its code.
+/// The RISC-V machine of a configuration and a code.
 #[derive(Drop)]
 pub struct RvTarget {
     pub config: Config,
