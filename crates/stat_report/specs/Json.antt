@@ -7,9 +7,10 @@ use Rattle.slack_base.specs.declared.cores.Counts.{Counts}
 use Rattle.slack_base.specs.declared.cores.CoreEnd.{CoreEnd}
 use Rattle.slack_base.specs.declared.cores.CoreEnd.TheVariants.{Running, Exit, Trapped}
 use Rattle.bus_model.specs.Channels.{ChannelValue, asks_of, free_of, number_of, retries_of}
-use Rattle.timed_core.specs.Cores.{CoreValue, Inner}
-use Rattle.lockstep_model.specs.declared.machine.Machine.{Machine}
-use Rattle.stat_report.specs.Hexadecimal.{hex_digit}
+use Rattle.slack_base.specs.Inboxes.{CoreValue}
+use Rattle.timed_core.specs.Cores.{HartValue}
+use Rattle.target_law.specs.Cycles.{StateValue}
+use Rattle.plain_text.specs.Pieces.{hex_digit}
 use Rattle.stat_report.specs.Lines.{end_cycle, trap_name, trap_value}
 use Rattle.stat_report.specs.Report.{console_of, cycles_of}
 
@@ -38,10 +39,10 @@ core_object clock ended counts =
     (member (codes "snoops") (count counts.snoops) (member (codes "value") (count (end_value ended))
     (member (codes "waits") (count counts.waits) (member (codes "writebacks") (count counts.writebacks) no_members))))))))))
 
-abbrev pub core_data : ℕ → CoreValue Inner → Data
+abbrev pub core_data : ℕ → CoreValue HartValue → Data
 core_data clock core = core_object clock core.inner.ended core.inner.counts
 
-unfoldable pub cores_data : ℕ → List (CoreValue Inner) → List Data
+unfoldable pub cores_data : ℕ → List (CoreValue HartValue) → List Data
 cores_data clock cores = map (core_data clock) cores
 
 -- a bus
@@ -63,11 +64,11 @@ unfoldable pub hex_bytes : List ℕ → List ℕ
 hex_bytes bytes = flat_map hex_byte bytes
 
 -- the report of a machine, the members of each object in the order of their names
-unfoldable pub json_of : Machine → Data
+unfoldable pub json_of : StateValue HartValue ChannelValue → Data
 json_of m =
     object (member (codes "buses") (array (items_of (buses_data m.chans))) (member (codes "console") (string (hex_bytes (console_of m.chans)))
     (member (codes "cores") (array (items_of (cores_data m.clock m.cores))) (member (codes "cycles") (count (cycles_of m.clock m.cores)) no_members))))
 
 -- its text
-unfoldable pub json_text : Machine → List ℕ
+unfoldable pub json_text : StateValue HartValue ChannelValue → List ℕ
 json_text m = compact_text (json_of m) ++ codes "\n"

@@ -1,5 +1,4 @@
 pub mod Dump
-pub mod Hexadecimal
 pub mod Json
 pub mod Lines
 pub mod Listing

@@ -1,12 +1,11 @@
 -- The lines of the report.
 use Rattle.std.specs.Prelude.{ℕ, List, ◌++◌, codes}
-use Rattle.std.specs.Fmt.{decimal}
 use Rattle.slack_base.specs.declared.cores.Counts.{Counts}
 use Rattle.slack_base.specs.declared.cores.CoreEnd.{CoreEnd}
 use Rattle.slack_base.specs.declared.cores.CoreEnd.TheVariants.{Running, Exit, Trapped}
 use Rattle.slack_base.specs.declared.cores.Trap.{Trap}
 use Rattle.slack_base.specs.declared.cores.Trap.TheVariants.{Illegal, Fetch, Target, Misaligned, Outside, Break, Call}
-use Rattle.stat_report.specs.Hexadecimal.{hex_word}
+use Rattle.plain_text.specs.Pieces.{field, hex_word}
 
 abbrev pub trap_name : Trap → List ℕ
 trap_name (Illegal bits) = codes "illegal"
@@ -25,10 +24,6 @@ trap_value (Misaligned address) = address
 trap_value (Outside address) = address
 trap_value (Break pc) = pc
 trap_value (Call number) = number
-
--- a name, and a number in decimal
-unfoldable pub field : List ℕ → ℕ → List ℕ
-field name n = name ++ decimal n
 
 -- how a core ended
 unfoldable pub end_text : CoreEnd → List ℕ

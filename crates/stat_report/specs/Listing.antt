@@ -8,7 +8,7 @@ use Rattle.slack_base.specs.declared.images.Segment.{Segment}
 use Rattle.slack_base.specs.declared.instructions.Instr.{Instr}
 use Rattle.rv_decode.specs.Decoding.{instr_of}
 use Rattle.rv_decode.specs.Texts.{text}
-use Rattle.stat_report.specs.Hexadecimal.{hex_word}
+use Rattle.plain_text.specs.Pieces.{hex_field}
 
 -- the text of an instruction, or `.word` where there is none
 abbrev pub text_or_word : Option Instr → List ℕ
@@ -17,10 +17,6 @@ text_or_word None = codes ".word"
 
 unfoldable pub word_text : ℕ → List ℕ
 word_text word = text_or_word (instr_of word)
-
--- the eight digits of a word, and a blank
-unfoldable pub hex_field : ℕ → List ℕ
-hex_field word = hex_word word ++ codes " "
 
 -- the line of an address and its word
 unfoldable pub line : ℕ → ℕ → List ℕ

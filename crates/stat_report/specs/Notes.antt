@@ -6,7 +6,7 @@ use Rattle.slack_base.specs.declared.histories.Violation.{Violation}
 use Rattle.slack_base.specs.declared.histories.Violation.TheVariants.{Bus, Map, Line, Reply}
 use Rattle.slack_base.specs.declared.notes.Interval.{Interval}
 use Rattle.slack_base.specs.declared.notes.Interval.TheVariants.{Kept, Rolled, Bounded}
-use Rattle.stat_report.specs.Lines.{field}
+use Rattle.plain_text.specs.Pieces.{field}
 
 abbrev pub is_bus : Violation → Bool
 is_bus (Bus channel high low) = true

@@ -1,57 +1,66 @@
 //! Dumps of memory.
-ghost use Rattle.std.specs.Prelude.{◌≡◌, ◌++◌, ◌+◌, ◌<◌, IfOk, IsTrue, OnOk, Some, length};
-ghost use Rattle.slack_base.specs.Numbers.{numbers_of};
-ghost use Rattle.bus_model.specs.Channels.{lines_of};
-ghost use Rattle.lockstep_model.specs.Numbered.{AllNumbered};
-ghost use Rattle.lockstep_model.specs.Proper.{IsChannelOf, IsProper};
-ghost use Rattle.lockstep_model.specs.Views.{state_of};
-ghost use Rattle.stat_report.specs.Dump.{dump_line, dump_of, is_zero, memory_words, modified_words, words_at, written_words};
+ghost use Rattle.std.specs.Prelude.{◌≡◌, ◌++◌, ◌+◌, ◌*◌, ◌^◌, ◌<◌, ◌≤◌, IfOk, OnOk};
+ghost use Rattle.bus_model.specs.Channels.{count_of};
+ghost use Rattle.lockstep_model.specs.Views.{machine_of};
+ghost use Rattle.stat_report.specs.Dump.{dump_line, dump_of, dumped, is_zero, lines_in, memory_words, modified_words, words_at, words_of_chan, written_words};
 
-use crate::texts::Text;
 use bus_model::Channel;
 use lockstep_model::Machine;
 use mesi_cache::{Held, HeldLine};
-use slack_base::{ByteList, Config, OutOfMemory, Words};
+use plain_text::Text;
+use slack_base::{ByteList, OutOfMemory, Words};
 use std::alloc::Global;
 use timed_core::TimedCore;
 
-/// The lines of memory that are not all 0, each with its address and its four words, in hexadecimal. Where a core has
-/// written a line that its cache still holds alone, the words are those in its cache.
-pub fn dump_text(alloc: Global, config: &Config, machine: &Machine) -> Result<ByteList, OutOfMemory>
-    requires { IsProper (numbers_of config.now) (state_of machine.now) }
-    ensures { IfOk result (λ text. text ≡ dump_of (numbers_of config.now) machine.now) }
+/// The lines of memory that are not all 0, each with its address and its four words, in hexadecimal. Memory begins at
+/// `base`. Where a core has written a line that its cache still holds Modified, the words are those in its cache.
+pub fn dump_text(alloc: Global, machine: &Machine, base: u32) -> Result<ByteList, OutOfMemory>
+    requires { base + 16 * lines_in machine.now.chans ≤ 2 ^ 32 }
+    ensures { IfOk result (λ text. text ≡ dump_of base (machine_of machine.now)) }
 {
     let mut text = Text::new(alloc);
-    for line in 0..config.memory / 16 {
-        let words = words_at(config, machine, line);
-        push_line(&mut text, config.base + 16 * line, words)?;
+    for line in 0..lines_in(machine.chans.as_slice()) {
+        push_words(&mut text, base + 16 * line, words_at(machine, line))?;
     }
     Ok(text.into_list())
 }
 
+/// How many lines of memory the channels have.
+fn lines_in(chans: &[Channel]) -> u32
+    requires { lines_in chans.now < 2 ^ 32 }
+    ensures { result ≡ lines_in chans.now }
+{
+    chans.iter().map(|chan| chan.lines()).sum()
+}
+
 /// The words of a line, as the cores wrote them last.
 #[tactic(auto, unfolding(crate::specs::Dump::words_at))]
-fn words_at(config: &Config, machine: &Machine, line: u32) -> Words
-    requires proper { IsProper (numbers_of config.now) (state_of machine.now) }
-    requires line { line < lines_of (numbers_of config.now) }
-    ensures { words_at (numbers_of config.now) machine.now line ≡ Some result }
+fn words_at(machine: &Machine, line: u32) -> Option<Words>
+    ensures { result ≡ words_at (machine_of machine.now) line }
 {
     match written_words(machine.cores.as_slice(), line) {
-        Some(words) => words,
-        None => memory_words(config, machine.chans.as_slice(), line),
+        Some(words) => Some(words),
+        None => memory_words(machine.chans.as_slice(), line),
     }
 }
 
-/// The words of a line in memory, which its bus has.
-#[tactic(auto, unfolding(crate::specs::Dump::memory_words))]
-fn memory_words(config: &Config, chans: &[Channel], line: u32) -> Words
-    requires count { length chans.now ≡ config.now.buses + 1 }
-    requires chans { AllNumbered (IsChannelOf (numbers_of config.now)) 0 chans.now }
-    requires line { line < lines_of (numbers_of config.now) }
-    ensures { memory_words (numbers_of config.now) chans.now line ≡ Some result }
+/// The words of a line in memory, as a bus has them that has the line.
+fn memory_words(chans: &[Channel], line: u32) -> Option<Words>
+    ensures { result ≡ memory_words line chans.now }
 {
-    let bus = &chans[(line % config.buses) as usize];
-    bus.entry(line).words
+    for chan in chans {
+        if let Some(words) = words_of_chan(chan, line) {
+            return Some(words);
+        }
+    }
+    None
+}
+
+/// The words of a line in memory, where the channel has it.
+fn words_of_chan(chan: &Channel, line: u32) -> Option<Words>
+    ensures { result ≡ words_of_chan line chan.now }
+{
+    chan.find_entry(line).map(|entry| entry.words)
 }
 
 /// The words of a line in the cache of the first core that holds it Modified.
@@ -73,6 +82,16 @@ fn modified_words(held: Option<HeldLine>) -> Option<Words>
     match held {
         Some(line) if line.held == Held::Modified => Some(line.words),
         _ => None,
+    }
+}
+
+/// Appends the line of an address, if there are words.
+fn push_words(text: &mut Text, address: u32, words: Option<Words>) -> Result<(), OutOfMemory>
+    ensures { OnOk result (text.new ≡ text.old ++ dumped address words) }
+{
+    match words {
+        Some(words) => push_line(text, address, words),
+        None => Ok(()),
     }
 }
 

@@ -1,9 +1,9 @@
 //! The lines of the report.
 ghost use Rattle.std.specs.Prelude.{◌≡◌, ◌++◌, OnOk, codes};
-ghost use Rattle.stat_report.specs.Hexadecimal.{hex_word};
+ghost use Rattle.plain_text.specs.Pieces.{hex_word};
 ghost use Rattle.stat_report.specs.Lines.{core_line, counts_text, end_text, end_cycle, trap_name, trap_value};
 
-use crate::texts::Text;
+use plain_text::Text;
 use slack_base::{CoreEnd, Counts, OutOfMemory, Trap};
 
 /// Appends the line of a core.

@@ -1,12 +1,13 @@
 //! Listings of images.
 ghost use Rattle.std.specs.Prelude.{◌≡◌, ◌+◌, ◌%◌, ◌^◌, ◌<◌, ◌≤◌, ◌++◌, All, AllPairs, IfOk, OnOk, flat_map, length, map};
 ghost use Rattle.slack_base.specs.Images.{IsInMemory, IsApart};
+ghost use Rattle.rv_decode.specs.Texts.{text as instr_text};
 ghost use Rattle.stat_report.specs.Listing.{IsInOrder, IsListing, line, segment_text, word_text};
 
-use crate::texts::Text;
 use byteorder::{ByteOrder, LittleEndian};
-use rv_decode::decode;
-use slack_base::{ByteList, Image, OutOfMemory, Segment};
+use plain_text::Text;
+use rv_decode::{decode, text_of};
+use slack_base::{ByteList, Image, Instr, OutOfMemory, Segment};
 use std::alloc::Global;
 
 /// The listing of an image: for each word of its segments a line with the address, the word and its instruction, the
@@ -83,7 +84,15 @@ fn push_word_text(text: &mut Text, word: u32) -> Result<(), OutOfMemory>
     ensures { OnOk result (text.new ≡ text.old ++ word_text word) }
 {
     match decode(word) {
-        Some(instr) => text.push_instr(&instr),
+        Some(instr) => push_instr(text, &instr),
         None => text.push_str(".word"),
     }
+}
+
+/// Appends the text of an instruction.
+fn push_instr(text: &mut Text, instr: &Instr) -> Result<(), OutOfMemory>
+    ensures { OnOk result (text.new ≡ text.old ++ instr_text instr.now) }
+{
+    let instr = text_of(text.allocator(), instr)?;
+    text.push_bytes(instr.as_slice())
 }

@@ -2,7 +2,7 @@
 ghost use Rattle.std.specs.Prelude.{◌≡◌, ◌++◌, IfOk, OnOk};
 ghost use Rattle.stat_report.specs.Notes.{count_of, id_field, is_bus, is_map, is_line, is_reply, kinds_text, late_text, lines_from, note_lines, notes_of, order_text, ticks_line, violation_line, violation_lines};
 
-use crate::texts::Text;
+use plain_text::Text;
 use slack_base::{ByteList, Id, Interval, NoteList, OutOfMemory, Violation};
 use std::alloc::Global;
 

@@ -1,11 +1,13 @@
 //! The report of a run.
-ghost use Rattle.std.specs.Prelude.{◌≡◌, ◌≤◌, ◌^◌, ◌++◌, OnOk, IfOk};
+ghost use Rattle.std.specs.Prelude.{◌≡◌, ◌≤◌, ◌++◌, OnOk, IfOk};
+ghost use Rattle.slack_base.specs.declared.bounds.TheConstants.{TOP};
+ghost use Rattle.lockstep_model.specs.Views.{machine_of};
 ghost use Rattle.stat_report.specs.Report.{all_cores_ended, end_of, last_end, cycles_of, cores_text, bus_line, buses_text, console_of, console_text, report_of};
 
 use crate::lines::push_core;
-use crate::texts::Text;
 use bus_model::Channel;
-use lockstep_model::{Machine, all_have_ended};
+use lockstep_model::Machine;
+use plain_text::Text;
 use slack_base::{ByteList, CoreEnd, OutOfMemory};
 use std::alloc::Global;
 use timed_core::TimedCore;
@@ -13,7 +15,7 @@ use timed_core::TimedCore;
 /// The report of a machine: its cycles, a line for each core and each bus, and the console.
 #[tactic(auto, unfolding(crate::specs::Report::report_of))]
 pub fn report_text(alloc: Global, machine: &Machine) -> Result<ByteList, OutOfMemory>
-    ensures { IfOk result (λ text. text ≡ report_of machine.now) }
+    ensures { IfOk result (λ text. text ≡ report_of (machine_of machine.now)) }
 {
     let cores = machine.cores.as_slice();
     let chans = machine.chans.as_slice();
@@ -46,16 +48,23 @@ pub(crate) fn console_bytes(alloc: Global, chans: &[Channel]) -> Result<ByteList
 pub(crate) fn cycles(clock: u64, cores: &[TimedCore]) -> u64
     ensures { result ≡ cycles_of clock cores.now }
 {
-    if all_have_ended(cores) {
+    if all_cores_ended(cores) {
         last_end(cores) + 1
     } else {
         clock
     }
 }
 
+/// Whether all cores have ended.
+fn all_cores_ended(cores: &[TimedCore]) -> bool
+    ensures { result ≡ all_cores_ended cores.now }
+{
+    cores.iter().all(|core| core.has_ended())
+}
+
 fn last_end(cores: &[TimedCore]) -> u64
     ensures value { result ≡ last_end cores.now }
-    ensures bound { result ≤ 2 ^ 62 }
+    ensures bound { result ≤ TOP }
 {
     let mut last = 0;
     for core in cores {

@@ -9,7 +9,6 @@ use std::test::Fail;
 
 mod consoles;
 mod ends;
-mod machines;
 mod notes;
 
 /// A segment of these bytes and of four more, which no file gives.
@@ -22,21 +21,6 @@ fn segment(alloc: Global, address: u32, bytes: &[u8]) -> Result<Segment, OutOfMe
         bytes: ByteList::of(Vec::from_slice(alloc, bytes)?),
         size: bytes.len() as u32 + 4,
     })
-}
-
-#[test]
-fn lists_a_program(rt: HostRuntime) -> Result<(), Fail> {
-    let bytes = [0x93, 0x08, 0xd0, 0x05, 0x13, 0x05, 0, 0, 0x73, 0, 0, 0];
-    let mut segments = SegmentList::new(rt.alloc());
-    segments.push(segment(rt.alloc(), 0, &bytes)?)?;
-    let image = Image { entry: 0, segments };
-    let expected =
-        b"00000000 05d00893 addi x17, x0, 93\n00000004 00000513 addi x10, x0, 0\n00000008 00000073 ecall\n";
-    assert_eq!(rt;
-        listing(rt.alloc(), &image)?.as_slice(),
-        expected.as_slice()
-    );
-    Ok(())
 }
 
 /// The second segment comes first. Two bytes of it lie before its first word, and three behind it.

@@ -1,7 +1,7 @@
 //! Bytes of the console.
-use crate::objects::hex_bytes;
+use crate::json_reports::hex_bytes;
 use crate::reports::push_console;
-use crate::texts::Text;
+use plain_text::Text;
 use std::test::Fail;
 
 /// Each of the 256 bytes, as it is and in hexadecimal.

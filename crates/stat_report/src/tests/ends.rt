@@ -1,7 +1,7 @@
 //! How cores end, in the report and in JSON.
+use crate::json_reports::core_value;
 use crate::lines::push_core;
-use crate::objects::core_value;
-use crate::texts::Text;
+use plain_text::Text;
 use slack_base::{ByteList, CoreEnd, Counts, OutOfMemory, Trap};
 use std::alloc::Global;
 use std::test::Fail;

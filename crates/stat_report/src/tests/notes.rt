@@ -1,7 +1,8 @@
 //! Notes worked by hand.
 use crate::notes_text;
 use slack_base::{
-    AskList, Drift, Id, Interval, NoteList, OutOfMemory, SentList, Violation, ViolationList,
+    AskList, ClashList, Drift, Id, Interval, NoteList, OutOfMemory, SentList, Violation,
+    ViolationList,
 };
 use std::alloc::Global;
 use std::test::Fail;
@@ -20,6 +21,7 @@ fn drift(alloc: Global) -> Drift {
         start: 0,
         len: 12,
         served: AskList::new(alloc),
+        clashes: ClashList::new(alloc),
         sent: SentList::new(alloc),
     }
 }
@@ -82,17 +84,6 @@ fn notes_of_each_kind(rt: HostRuntime) -> Result<(), Fail> {
         b"interval 0 kept 1000\ninterval 1 rolled 12 bus 2 map 1 line 0 reply 0\nbus channel 1 high 7.1.0 low 5.0.2\nmap line 256 high 9.0.0 low 8.1.1\nbus channel 0 high 4.1.0 low 3.2.0\ninterval 2 bounded 30 bus 0 map 0 line 1 reply 1\nline core 2 id 12.1.0 due 14 clock 15\nreply core 3 id 9.1.0 due 11 clock 12\nticks drift 2084 replay 24\n";
     assert_eq!(rt;
         notes_text(alloc, &notes, 2084, 24)?.as_slice(),
-        expected.as_slice()
-    );
-    Ok(())
-}
-
-#[test]
-fn no_notes(rt: HostRuntime) -> Result<(), Fail> {
-    let notes = NoteList::new(rt.alloc());
-    let expected = b"ticks drift 0 replay 0\n";
-    assert_eq!(rt;
-        notes_text(rt.alloc(), &notes, 0, 0)?.as_slice(),
         expected.as_slice()
     );
     Ok(())

@@ -1,16 +1,23 @@
-use Rattle.std.proofs.Common.{◌%◌, ◌<◌, length, sym, subst, rules}
-use Rattle.slack_base.specs.Numbers.{numbers_of}
-use Rattle.bus_model.specs.Asks.{HasLine}
-use Rattle.stat_report.proofs.Dumping.{line_of_bus, words_in_memory}
+use Rattle.std.proofs.Common.{◌≡◌, ◌∙◌, Some, None, get_or, sym, ap}
+use Rattle.stat_report.specs.Dump.{words_of_chan, memory_words}
+use Rattle.stat_report.proofs.Dumping.{given_here, given_later, given_nowhere}
 use Rattle.stat_report.proofs.dumps.memory_words.Goals as goal
 
-pub entry-requires : goal.entry-requires
-entry-requires c =
-    let small : c.args.line % c.args.config.now.buses < c.args.config.now.buses = search rules in
-    subst (λ chan. HasLine chan c.args.line) (sym c.index-chans-line.is)
-    (line_of_bus (numbers_of c.args.config.now) c.args.chans.now c.args.line c.index-chans-line.result small c.requires.count c.requires.chans c.requires.line)
+pub returns-in-Some : goal.returns-in-Some
+unfolding memory_words
+returns-in-Some c =
+    let found : words_of_chan c.args.line (get_or c.args.chans.now c.loop-chan.chan-index c.chan-item.result) ≡ Some c.in-Some.words =
+    ap (words_of_chan c.args.line) (sym c.chan-item.is) ∙ sym c.words_of_chan.ensures ∙ c.in-Some.is in
+    sym (sym c.loop-chan.invariant ∙ given_here (words_of_chan c.args.line) c.args.chans.now c.loop-chan.chan-index c.chan-item.result c.in-Some.words c.loop-chan-test.true found)
+
+pub loop-chan-preserved : goal.loop-chan-preserved
+unfolding memory_words
+loop-chan-preserved c =
+    let none : words_of_chan c.args.line (get_or c.args.chans.now c.loop-chan.chan-index c.chan-item.result) ≡ None =
+    ap (words_of_chan c.args.line) (sym c.chan-item.is) ∙ sym c.words_of_chan.ensures ∙ c.in_default.is in
+    given_later (words_of_chan c.args.line) c.args.chans.now c.loop-chan.chan-index c.chan-item.result c.loop-chan-test.true none ∙ c.loop-chan.invariant
 
 pub returns : goal.returns
+unfolding memory_words
 returns c =
-    let small : c.args.line % c.args.config.now.buses < length c.args.chans.now = search rules in
-    words_in_memory (numbers_of c.args.config.now) c.args.chans.now c.args.line c.index-chans-line.result c.entry.result small c.index-chans-line.is c.entry.ensures
+    sym (sym c.loop-chan.invariant ∙ given_nowhere (words_of_chan c.args.line) c.args.chans.now c.loop-chan.chan-index c.loop-chan-test.false)

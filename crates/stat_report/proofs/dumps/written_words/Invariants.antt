@@ -2,6 +2,6 @@ use Rattle.std.proofs.Common.{◌≡◌, drop}
 use Rattle.stat_report.specs.Dump.{written_words}
 use Rattle.stat_report.proofs.dumps.written_words.Given as goal
 
--- no core so far holds the line Modified
+-- none so far gives words
 abbrev pub invariant-loop-core : goal.invariant-loop-core
 invariant-loop-core l = written_words l.line (drop l.core-index l.cores) ≡ written_words l.line l.cores

@@ -1,6 +1,6 @@
 use Rattle.std.proofs.Common.{◌≡◌, ◌∙◌, ◌++◌, sym, ap, append_assoc, codes}
 use Rattle.std.proofs.lemmas.Result.{on_ok_weaker}
-use Rattle.stat_report.specs.Lines.{field}
+use Rattle.plain_text.specs.Pieces.{field}
 use Rattle.stat_report.specs.Notes.{order_text, violation_line}
 use Rattle.stat_report.proofs.notes.push_violation.Goals as goal
 

@@ -2,15 +2,16 @@
 ghost use Rattle.std.specs.Prelude.{◌≡◌, ◌++◌, ◌∷◌, [], ◌<◌, IfOk, OnOk, encode_utf8, map, string_bytes};
 ghost use Rattle.serde_json.specs.Data.{put as with_member};
 ghost use Rattle.serde_json.specs.View.{members_view, view};
-ghost use Rattle.stat_report.specs.Hexadecimal.{hex_digit};
+ghost use Rattle.plain_text.specs.Pieces.{hex_digit};
 ghost use Rattle.stat_report.specs.Json.{bus_data, buses_data, core_object, count, cores_data, end_name, end_value, hex_byte, hex_bytes, json_of, json_text};
+ghost use Rattle.lockstep_model.specs.Views.{machine_of};
 ghost use Rattle.stat_report.specs.Report.{console_of};
 
 use crate::lines::{end_cycle, trap_name, trap_value};
 use crate::reports::{console_bytes, cycles};
-use crate::texts::{Text, hex_digit};
 use bus_model::Channel;
 use lockstep_model::Machine;
+use plain_text::{Text, hex_digit};
 use serde_json::{Map, Value, json, put};
 use slack_base::{ByteList, CoreEnd, Counts, OutOfMemory};
 use std::alloc::Global;
@@ -20,7 +21,7 @@ use timed_core::TimedCore;
 /// cores and its cycles. The members of each object stand in the order of their names.
 #[tactic(auto, unfolding(crate::specs::Json::json_text))]
 pub fn report_json(alloc: Global, machine: &Machine) -> Result<ByteList, OutOfMemory>
-    ensures { IfOk result (λ text. text ≡ json_text machine.now) }
+    ensures { IfOk result (λ text. text ≡ json_text (machine_of machine.now)) }
 {
     let report = machine_value(alloc, machine)?.to_string(alloc)?;
     let mut text = Text::new(alloc);
@@ -31,7 +32,7 @@ pub fn report_json(alloc: Global, machine: &Machine) -> Result<ByteList, OutOfMe
 
 #[tactic(auto, unfolding(crate::specs::Json::json_of))]
 fn machine_value(alloc: Global, machine: &Machine) -> Result<Value, OutOfMemory>
-    ensures { IfOk result (λ value. view value ≡ json_of machine.now) }
+    ensures { IfOk result (λ value. view value ≡ json_of (machine_of machine.now)) }
 {
     let cores = machine.cores.as_slice();
     let chans = machine.chans.as_slice();

@@ -1,7 +1,7 @@
 use Rattle.std.proofs.Common.{◌≡◌, map, take}
 use Rattle.serde_json.specs.View.{view}
 use Rattle.stat_report.specs.Json.{core_data}
-use Rattle.stat_report.proofs.objects.core_values.Given as goal
+use Rattle.stat_report.proofs.json_reports.core_values.Given as goal
 
 -- the cores so far
 abbrev pub invariant-loop-core : goal.invariant-loop-core

@@ -1,7 +1,7 @@
 use Rattle.std.proofs.Common.{◌≡◌, map, filter, take}
 use Rattle.serde_json.specs.View.{view}
 use Rattle.stat_report.specs.Json.{bus_data, has_number}
-use Rattle.stat_report.proofs.objects.bus_values.Given as goal
+use Rattle.stat_report.proofs.json_reports.bus_values.Given as goal
 
 -- the buses so far
 abbrev pub invariant-loop-chan : goal.invariant-loop-chan
