@@ -1,5 +1,5 @@
 -- The tests of the ranges say what the ranges are.
-use Rattle.std.proofs.Common.{◌≡◌, ℕ, ℤ, pos, neg_ℤ, ◌^◌, ◌%◌, ◌≤ℤ◌, ◌<ℤ◌, Bool, true, false, ◌&&◌, refl, arith, unsigned_abs, Decides}
+use Rattle.std.proofs.Common.{◌≡◌, ℕ, ℤ, pos, neg_ℤ, ◌^◌, ◌%◌, ◌<◌, ◌≤ℤ◌, ◌<ℤ◌, Bool, true, false, ◌&&◌, refl, arith, unsigned_abs, Decides}
 use Rattle.std.specs.Prelude.{int_le, int_lt}
 use Rattle.std.proofs.lemmas.Bool.Decides.{Decides-and, Decides-eqb, Decides-ltb, Decides-like}
 use Rattle.std.proofs.lemmas.Int.{ints}
@@ -7,7 +7,7 @@ use Rattle.slack_base.specs.declared.instructions.Instr.{Instr}
 use Rattle.slack_base.specs.declared.instructions.Instr.TheVariants.{Lui, Auipc, Jal, Jalr, Branch, Load, Store, Imm, Shift, Reg, Lr, Sc, Amo, Fence, Ecall, Ebreak}
 use Rattle.rv_decode.specs.Fields.{opcode_of, f3_of}
 use Rattle.rv_decode.specs.Ranges.{IsRegister, IsWithin, IsEven, IsInRange}
-use Rattle.rv_asm.specs.Ranges.{is_signed, is_even, is_register, is_in_range}
+use Rattle.rv_asm.specs.Ranges.{is_from_to, is_signed, is_even, is_register, is_in_range}
 
 register : (r : ℕ) → Decides (is_register r) (IsRegister r)
 register r = Decides-ltb r 32
@@ -61,3 +61,13 @@ fails false h k = refl
 
 pub out_of_range : (i : Instr) → (IsInRange i → ⊥) → is_in_range i ≡ false
 out_of_range i h = fails (is_in_range i) (in_range i) h
+
+-- the tests, where the ranges hold
+pub within_31 : (z : ℤ) → IsWithin 31 z → is_signed 31 z ≡ true
+within_31 z = (within 31 z).1
+
+pub from_nought : (n : ℕ) → n < 2 ^ 32 → is_from_to (pos 0) (pos (2 ^ 32)) (pos n) ≡ true
+from_nought n h = (two _ _ (at_least (pos 0) (pos n)) (below (pos n) (pos (2 ^ 32)))).1 (grind (arith, ints), grind (arith, ints))
+
+pub is_in_its_range : (i : Instr) → IsInRange i → is_in_range i ≡ true
+is_in_its_range i = (in_range i).1

@@ -1,9 +1,16 @@
 pub mod Coding
-pub mod Digits
 pub mod InRange
+pub mod Named
 pub mod Names
+pub mod OneImage
+pub mod OneLine
 pub mod Parts
+pub mod Pieces
 pub mod Places
+pub mod ReadBack
+pub mod SameTables
 pub mod Searching
 pub mod SoFar
+pub mod Spelling
 pub mod Steps
+pub mod TextsBack

@@ -11,3 +11,4 @@ pub mod Programs
 pub mod Ranges
 pub mod Registers
 pub mod Tables
+pub mod Written

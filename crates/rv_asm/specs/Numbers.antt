@@ -1,21 +1,18 @@
 -- Numbers as they are written: decimal, or `0x` and hexadecimal, with an optional `-`.
-use Rattle.std.specs.Prelude.{ℕ, ℤ, pos, neg_ℤ, ◌^◌, ◌&&◌, Bool, List, Option, Some, None, Result, Ok, Err, nat_lt, codes, length, if◌then◌else◌}
-use Rattle.std.specs.Char.{digit_value}
-use Rattle.std.specs.List.{list_all}
-use Rattle.std.specs.Str.Parse.{digits_value}
+use Rattle.std.specs.Prelude.{ℕ, ℤ, pos, neg_ℤ, List, Option, Some, None, Result, Ok, Err, codes}
+use Rattle.plain_text.specs.Numerals.{numeral_of}
 use Rattle.slack_base.specs.declared.faults.AsmKind.{AsmKind}
 use Rattle.slack_base.specs.declared.faults.AsmKind.TheVariants.{Operand}
 use Rattle.rv_asm.specs.Bytes.{without_prefix}
 use Rattle.rv_asm.specs.Kinds.{◌>>=◌}
 
--- one digit at least, and no other byte
-abbrev pub are_digits : ℕ → List ℕ → Bool
-are_digits radix text = nat_lt 0 (length text) && list_all (λ byte. nat_lt (digit_value byte) radix) text
+-- the number, or the fault where the digits spell none below 2^32
+abbrev pub or_operand : Option ℕ → Result ℕ AsmKind
+or_operand (Some n) = Ok n
+or_operand None = Err Operand
 
--- the number that the digits spell, below 2^32
-unfoldable pub digits_of : ℕ → List ℕ → Result ℕ AsmKind
-digits_of radix text =
-    if are_digits radix text && nat_lt (digits_value radix text) (2 ^ 32) then Ok (digits_value radix text) else Err Operand
+abbrev pub digits_of : ℕ → List ℕ → Result ℕ AsmKind
+digits_of radix text = or_operand (numeral_of radix text)
 
 -- hexadecimal behind `0x`, decimal else
 abbrev pub magnitude_by : Option (List ℕ) → List ℕ → Result ℕ AsmKind

@@ -5,6 +5,7 @@ use Rattle.std.specs.Str.Lines.{lines}
 use Rattle.slack_base.specs.declared.faults.AsmKind.{AsmKind}
 use Rattle.slack_base.specs.declared.faults.AsmKind.TheVariants.{TooLong}
 use Rattle.slack_base.specs.declared.faults.AsmFault.{AsmFault}
+use Rattle.slack_base.specs.Images.{one_piece}
 use Rattle.slack_base.specs.declared.images.Image.{Image}
 use Rattle.rv_asm.specs.declared.assembling.AsmError.{AsmError}
 use Rattle.rv_asm.specs.declared.assembling.AsmError.TheVariants as errors
@@ -65,17 +66,10 @@ PushesWord old new here None after = (after ≡ here) × (new ≡ old)
 PushesWord old new here (Some word) after =
     (here < most_words) × (after ≡ here + 1) × (new ≡ old ++ to_le_bytes w32 word) × (word < 2 ^ 32)
 
--- the image of some words: one segment, which begins at base
-abbrev pub image_at : ℕ → List ℕ → Image
-image_at base bytes = record {
-  entry = base;
-  segments = record { address = base; bytes = bytes; size = length bytes } ∷ [];
-}
-
 -- the image is that of the text
 pub record IsAssembly (text : List ℕ) (base : ℕ) (image : Image) : Type 0 where
   pub codes : List Code
   pub bytes : List ℕ
   pub program : program_of text ≡ Ok codes
   pub words : AreWordsOf codes bytes
-  pub whole : image ≡ image_at base bytes
+  pub whole : image ≡ one_piece base base bytes

@@ -9,7 +9,7 @@ ghost use Rattle.std.specs.Str.Lines.{lines};
 
 use crate::labels::Labels;
 use crate::lines::{define_line, first_line, line_word};
-use slack_base::{AsmFault, AsmKind, ByteList, Image, OutOfMemory, Segment, SegmentList};
+use slack_base::{AsmFault, AsmKind, Image, OutOfMemory};
 use std::alloc::{AllocError, AllocFailed, Global};
 use thiserror::Error;
 
@@ -59,17 +59,7 @@ pub fn assemble(alloc: Global, text: &[u8], base: u32) -> Result<Image, AsmError
 {
     let labels = labels_of(alloc, text)?;
     let bytes = bytes_of(alloc, &labels, text)?;
-    let size = bytes.len() as u32;
-    let mut segments = SegmentList::new(alloc);
-    segments.push(Segment {
-        address: base,
-        bytes: ByteList::of(bytes),
-        size,
-    })?;
-    Ok(Image {
-        entry: base,
-        segments,
-    })
+    Ok(Image::one_piece(alloc, base, base, bytes)?)
 }
 
 /// The labels of a text, with their places.
@@ -126,7 +116,8 @@ fn bytes_of<'a>(alloc: Global, labels: &Labels<'a>, text: &'a [u8]) -> Result<Ve
 /// there are as many words as a program has at most.
 fn push_word(bytes: &mut Vec<u8>, here: u32, line: u32, word: Option<u32>) -> Result<u32, AsmError>
     ensures ok { IfOk result (PushesWord bytes.old.items bytes.new.items here word) }
-    ensures fault { (fault : AsmFault) → IsErrOf result (AsmError.Fault fault) → IsSome word × (most_words ≤ here) × (fault ≡ record { line = line; kind = AsmKind.TooLong }) }
+    ensures fault { (fault : AsmFault) → IsErrOf result (AsmError.Fault fault)
+        → IsSome word × (most_words ≤ here) × (fault ≡ record { line = line; kind = AsmKind.TooLong }) }
 {
     let Some(word) = word else {
         return Ok(here);

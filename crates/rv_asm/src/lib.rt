@@ -5,6 +5,7 @@ mod assembling;
 mod bytes;
 mod instructions;
 mod labels;
+pub mod laws;
 mod lines;
 mod mnemonics;
 mod numbers;

@@ -3,7 +3,7 @@
 use slack_base::{AmoOp, BranchOp, ImmOp, LoadOp, RegOp, ShiftOp, StoreOp};
 
 /// An instruction or pseudo-instruction, without its operands.
-#[derive(Clone, Copy, Debug, PartialEq, Eq)]
+#[derive(Clone, Copy)]
 pub enum Operation {
     Lui,
     Auipc,

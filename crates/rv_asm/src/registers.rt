@@ -1,7 +1,7 @@
 //! The names of the registers.
 ghost use Rattle.std.specs.Prelude.{◌≡◌, IsTrue};
 ghost use Rattle.rv_asm.specs.Registers.{registers, register_of};
-ghost use Rattle.rv_asm.specs.Tables.{rows_of, is_sorted};
+ghost use Rattle.rv_asm.specs.Tables.{HasEntriesOf, rows_of, is_sorted};
 
 use crate::tables::{Row, entry_in};
 use slack_base::AsmKind;
@@ -76,7 +76,7 @@ pub(crate) static REGISTERS: [Row<u32>; 65] = [
 ];
 
 fn registers() -> &'static [Row<u32>]
-    ensures rows { rows_of result.now ≡ registers }
+    ensures rows { HasEntriesOf registers (rows_of result.now) }
     ensures sorted { IsTrue (is_sorted (rows_of result.now)) }
 {
     &REGISTERS

@@ -1,10 +1,10 @@
 //! Words as LLVM's assembler gives them (`llvm-mc -triple=riscv32 -mattr=+m,+a`), and the faults of texts.
 use super::*;
-use slack_base::{AsmFault, AsmKind};
+use slack_base::{AsmFault, AsmKind, Image};
 use std::alloc::Global;
 use std::test::Fail;
 
-const EACH: [(&str, u32); 99] = [
+const EACH: [(&str, u32); 126] = [
     ("lui x8, 1", 0x00001437),
     ("auipc t0, 1048575", 0xfffff297),
     ("jal x1, 2048", 0x001000ef),
@@ -67,6 +67,33 @@ const EACH: [(&str, u32); 99] = [
     ("amomax.w x1, x2, (x3)", 0xa021a0af),
     ("amominu.w x1, x2, (x3)", 0xc021a0af),
     ("amomaxu.w x1, x2, (x3)", 0xe021a0af),
+    ("amoadd.w x1, x2, (x3)", 0x0021a0af),
+    ("amoadd.w.aqrl x1, x2, (x3)", 0x0621a0af),
+    ("amoadd.w.rl x1, x2, (x3)", 0x0221a0af),
+    ("amoand.w x1, x2, (x3)", 0x6021a0af),
+    ("amoand.w.aq x1, x2, (x3)", 0x6421a0af),
+    ("amoand.w.rl x1, x2, (x3)", 0x6221a0af),
+    ("amomax.w.aq x1, x2, (x3)", 0xa421a0af),
+    ("amomax.w.aqrl x1, x2, (x3)", 0xa621a0af),
+    ("amomax.w.rl x1, x2, (x3)", 0xa221a0af),
+    ("amomaxu.w.aq x1, x2, (x3)", 0xe421a0af),
+    ("amomaxu.w.aqrl x1, x2, (x3)", 0xe621a0af),
+    ("amomaxu.w.rl x1, x2, (x3)", 0xe221a0af),
+    ("amomin.w.aq x1, x2, (x3)", 0x8421a0af),
+    ("amomin.w.aqrl x1, x2, (x3)", 0x8621a0af),
+    ("amomin.w.rl x1, x2, (x3)", 0x8221a0af),
+    ("amominu.w.aq x1, x2, (x3)", 0xc421a0af),
+    ("amominu.w.aqrl x1, x2, (x3)", 0xc621a0af),
+    ("amominu.w.rl x1, x2, (x3)", 0xc221a0af),
+    ("amoor.w.aq x1, x2, (x3)", 0x4421a0af),
+    ("amoor.w.aqrl x1, x2, (x3)", 0x4621a0af),
+    ("amoor.w.rl x1, x2, (x3)", 0x4221a0af),
+    ("amoswap.w.aq x1, x2, (x3)", 0x0c21a0af),
+    ("amoswap.w.aqrl x1, x2, (x3)", 0x0e21a0af),
+    ("amoswap.w.rl x1, x2, (x3)", 0x0a21a0af),
+    ("amoxor.w x1, x2, (x3)", 0x2021a0af),
+    ("amoxor.w.aq x1, x2, (x3)", 0x2421a0af),
+    ("amoxor.w.aqrl x1, x2, (x3)", 0x2621a0af),
     ("fence", 0x0ff0000f),
     ("ecall", 0x00000073),
     ("ebreak", 0x00100073),
@@ -105,6 +132,89 @@ const EACH: [(&str, u32); 99] = [
     (".word -2147483648", 0x80000000),
     (".word 0xffffffff", 0xffffffff),
 ];
+
+/// Each name of a register, in the order of their numbers.
+const REGISTERS: &str = "\
+lui x0, 1
+lui zero, 1
+lui x1, 1
+lui ra, 1
+lui x2, 1
+lui sp, 1
+lui x3, 1
+lui gp, 1
+lui x4, 1
+lui tp, 1
+lui x5, 1
+lui t0, 1
+lui x6, 1
+lui t1, 1
+lui x7, 1
+lui t2, 1
+lui x8, 1
+lui fp, 1
+lui s0, 1
+lui x9, 1
+lui s1, 1
+lui x10, 1
+lui a0, 1
+lui x11, 1
+lui a1, 1
+lui x12, 1
+lui a2, 1
+lui x13, 1
+lui a3, 1
+lui x14, 1
+lui a4, 1
+lui x15, 1
+lui a5, 1
+lui x16, 1
+lui a6, 1
+lui x17, 1
+lui a7, 1
+lui x18, 1
+lui s2, 1
+lui x19, 1
+lui s3, 1
+lui x20, 1
+lui s4, 1
+lui x21, 1
+lui s5, 1
+lui x22, 1
+lui s6, 1
+lui x23, 1
+lui s7, 1
+lui x24, 1
+lui s8, 1
+lui x25, 1
+lui s9, 1
+lui x26, 1
+lui s10, 1
+lui x27, 1
+lui s11, 1
+lui x28, 1
+lui t3, 1
+lui x29, 1
+lui t4, 1
+lui x30, 1
+lui t5, 1
+lui x31, 1
+lui t6, 1
+";
+
+const REGISTERS_WORDS: [u32; 65] = [
+    0x00001037, 0x00001037, 0x000010b7, 0x000010b7, 0x00001137, 0x00001137, 0x000011b7, 0x000011b7,
+    0x00001237, 0x00001237, 0x000012b7, 0x000012b7, 0x00001337, 0x00001337, 0x000013b7, 0x000013b7,
+    0x00001437, 0x00001437, 0x00001437, 0x000014b7, 0x000014b7, 0x00001537, 0x00001537, 0x000015b7,
+    0x000015b7, 0x00001637, 0x00001637, 0x000016b7, 0x000016b7, 0x00001737, 0x00001737, 0x000017b7,
+    0x000017b7, 0x00001837, 0x00001837, 0x000018b7, 0x000018b7, 0x00001937, 0x00001937, 0x000019b7,
+    0x000019b7, 0x00001a37, 0x00001a37, 0x00001ab7, 0x00001ab7, 0x00001b37, 0x00001b37, 0x00001bb7,
+    0x00001bb7, 0x00001c37, 0x00001c37, 0x00001cb7, 0x00001cb7, 0x00001d37, 0x00001d37, 0x00001db7,
+    0x00001db7, 0x00001e37, 0x00001e37, 0x00001eb7, 0x00001eb7, 0x00001f37, 0x00001f37, 0x00001fb7,
+    0x00001fb7,
+];
+
+const EXIT: &[u8] = b"addi a7, x0, 93\naddi a0, x0, 0\necall\n";
 
 const EXIT_BYTES: [u8; 12] = [
     0x93, 0x08, 0xd0, 0x05, 0x13, 0x05, 0x00, 0x00, 0x73, 0x00, 0x00, 0x00,
@@ -270,9 +380,9 @@ fn words_of(alloc: Global, text: &str) -> Result<Vec<u32>, AsmError> {
 /// Every instruction and pseudo-instruction.
 #[test]
 fn words_of_each(rt: HostRuntime) -> Result<(), Fail> {
-    for (text, word) in EACH {
+    for (text, word) in &EACH {
         let words = words_of(rt.alloc(), text)?;
-        assert_eq!(rt; words.as_slice(), [word].as_slice(), "{text}");
+        assert_eq!(rt; words.as_slice(), [*word].as_slice(), "{text}");
     }
     Ok(())
 }
@@ -285,9 +395,17 @@ fn words_of_a_program(rt: HostRuntime) -> Result<(), Fail> {
     Ok(())
 }
 
+/// Each register by its number and by its names.
+#[test]
+fn words_of_registers(rt: HostRuntime) -> Result<(), Fail> {
+    let words = words_of(rt.alloc(), REGISTERS)?;
+    assert_eq!(rt; words.as_slice(), REGISTERS_WORDS.as_slice());
+    Ok(())
+}
+
 #[test]
 fn same_words(rt: HostRuntime) -> Result<(), Fail> {
-    for (text, other) in SAME {
+    for (text, other) in &SAME {
         let words = words_of(rt.alloc(), text)?;
         let others = words_of(rt.alloc(), other)?;
         assert_eq!(rt; words.as_slice(), others.as_slice(), "{text}");
@@ -297,29 +415,36 @@ fn same_words(rt: HostRuntime) -> Result<(), Fail> {
 
 #[test]
 fn faults(rt: HostRuntime) -> Result<(), Fail> {
-    for (text, line, kind) in FAULTS {
+    for (text, line, kind) in &FAULTS {
         let fault = words_of(rt.alloc(), text).err();
         assert_eq!(rt;
             fault,
-            Some(AsmError::Fault(AsmFault { line, kind })),
+            Some(AsmError::Fault(AsmFault {
+                line: *line,
+                kind: *kind
+            })),
             "{text}"
         );
     }
     Ok(())
 }
 
+/// The entry of an image of one segment, and the segment's address, size and bytes.
+fn parts(image: &Image) -> Option<(u32, u32, u32, &[u8])> {
+    match image.segments.as_slice() {
+        [only] => Some((image.entry, only.address, only.size, only.bytes.as_slice())),
+        _ => None,
+    }
+}
+
 /// The words stand one after another from the base, least byte first.
 #[test]
 fn image_of_a_text(rt: HostRuntime) -> Result<(), Fail> {
-    let text = b"addi a7, x0, 93\naddi a0, x0, 0\necall\n";
-    let image = assemble(rt.alloc(), text, 65536)?;
-    assert_eq!(rt; image.entry, 65536);
-    assert_eq!(rt; image.segments.len(), 1);
-    for segment in image.segments.as_slice() {
-        assert_eq!(rt; segment.address, 65536);
-        assert_eq!(rt; segment.size, 12);
-        assert_eq!(rt; segment.bytes.as_slice(), EXIT_BYTES.as_slice());
-    }
+    let image = assemble(rt.alloc(), EXIT, 65536)?;
+    assert_eq!(rt;
+        parts(&image),
+        Some((65536, 65536, 12, EXIT_BYTES.as_slice()))
+    );
     Ok(())
 }
 
@@ -327,12 +452,7 @@ fn image_of_a_text(rt: HostRuntime) -> Result<(), Fail> {
 #[test]
 fn image_of_labels_alone(rt: HostRuntime) -> Result<(), Fail> {
     let image = assemble(rt.alloc(), b"a: # none\n\nb:", 4294967295)?;
-    assert_eq!(rt; image.entry, 4294967295);
-    assert_eq!(rt; image.segments.len(), 1);
-    for segment in image.segments.as_slice() {
-        assert_eq!(rt; segment.address, 4294967295);
-        assert_eq!(rt; segment.size, 0);
-        assert_eq!(rt; segment.bytes.len(), 0);
-    }
+    let none: &[u8] = &[];
+    assert_eq!(rt; parts(&image), Some((4294967295, 4294967295, 0, none)));
     Ok(())
 }
