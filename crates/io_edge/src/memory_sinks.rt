@@ -82,6 +82,8 @@ impl Sink for MemorySink {
         ensures full { 0 < length piece.now → self.old.room ≡ 0 → IsErr result }
         ensures only { IsErr result → Contains self.old.fails (raised_by 1 self.old.calls) ⊎ ((0 < length piece.now) × (self.old.room ≡ 0)) }
         ensures calls { self.new.calls ≡ raised_by 1 self.old.calls }
+        ensures fault { OnErr result (self.new.faults ≡ raised_by 1 self.old.faults) }
+        ensures no_fault { OnOk result (self.new.faults ≡ self.old.faults) }
         ensures same { (self.new.step ≡ self.old.step) × (self.new.fails ≡ self.old.fails) }
         ensures room_kept { OnErr result (self.new.room ≡ self.old.room) }
     {

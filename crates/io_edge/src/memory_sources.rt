@@ -50,7 +50,7 @@ impl MemorySource {
 }
 
 impl Source for MemorySource {
-    ghost use Rattle.std.specs.Prelude.{◌≡◌, ◌<◌, ◌≤◌, length, Some, IfOk, OnErr, IsErr, ◌↔◌, Contains, min};
+    ghost use Rattle.std.specs.Prelude.{◌≡◌, ◌<◌, ◌≤◌, length, Some, IfOk, OnOk, OnErr, IsErr, ◌↔◌, Contains, min};
     ghost use Rattle.io_edge.specs.Counting.{Rose, raised_by};
     ghost use Rattle.io_edge.specs.Streams.{MovesFirst, MovesNothing};
 
@@ -71,6 +71,8 @@ impl Source for MemorySource {
         ensures least { IfOk result (λ n. n ≡ min self.old.step (min (length into.old) (length self.old.left))) }
         ensures told_to_fail { IsErr result ↔ Contains self.old.fails (raised_by 1 self.old.calls) }
         ensures calls { self.new.calls ≡ raised_by 1 self.old.calls }
+        ensures fault { OnErr result (self.new.faults ≡ raised_by 1 self.old.faults) }
+        ensures no_fault { OnOk result (self.new.faults ≡ self.old.faults) }
         ensures same { (self.new.step ≡ self.old.step) × (self.new.fails ≡ self.old.fails) }
     {
         self.calls = self.calls.saturating_add(1);

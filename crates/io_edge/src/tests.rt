@@ -1,5 +1,8 @@
 //! What no clause says: that memory serves, and that a stream goes on after a failed call.
+mod recorders;
+
 use crate::{Failed, MemorySink, MemorySource, ReadAllError, Sink, Source, read_all, write_all};
+use recorders::{RecordingSink, RecordingSource};
 use slack_base::Row;
 use std::alloc::Global;
 use std::test::Fail;
@@ -52,5 +55,30 @@ fn a_failed_write_leaves_a_front(rt: HostRuntime) -> Result<(), Fail> {
     let mut small = MemorySink::make(alloc, 5, 4, numbers(alloc, &[])?)?;
     assert_eq!(rt; write_all(&mut small, b"a short text"), Err(Failed));
     assert_eq!(rt; small.written(), b"a sho".as_slice());
+    Ok(())
+}
+
+#[test]
+fn lends_what_may_still_come_and_one_byte_more(rt: HostRuntime) -> Result<(), Fail> {
+    let alloc = rt.alloc();
+    let mut whole = RecordingSource::new(alloc, 6000);
+    assert_eq!(rt; read_all(alloc, &mut whole, 6000)?.len(), 6000);
+    assert_eq!(rt; whole.lengths(), [4096, 3001, 1].as_slice());
+    let mut long = RecordingSource::new(alloc, 1);
+    assert_eq!(rt;
+        read_all(alloc, &mut long, 0).err(),
+        Some(ReadAllError::TooLong)
+    );
+    assert_eq!(rt; long.lengths(), [1].as_slice());
+    Ok(())
+}
+
+#[test]
+fn offers_all_that_is_left(rt: HostRuntime) -> Result<(), Fail> {
+    let mut sink = RecordingSink::new(rt.alloc());
+    assert_eq!(rt; write_all(&mut sink, b""), Ok(()));
+    assert_eq!(rt; sink.lengths(), [].as_slice());
+    assert_eq!(rt; write_all(&mut sink, b"a short text"), Ok(()));
+    assert_eq!(rt; sink.lengths(), [12, 7, 2].as_slice());
     Ok(())
 }

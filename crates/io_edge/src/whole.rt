@@ -64,9 +64,12 @@ pub fn read_all<S: Source>(
     }
 }
 
-/// Writes all bytes. A sink that fails has a front of them.
+/// Writes all bytes: each call of the sink offers all that are left, and for no bytes there is none. A sink that fails
+/// has a front of them, and not all.
 pub fn write_all<W: Sink>(sink: &mut W, bytes: &[u8]) -> Result<(), Failed>
     ensures whole { OnOk result (W.written sink.new ≡ with_after (W.written sink.old) bytes.now) }
+    // For no bytes the sink isn't called.
+    ensures untouched { bytes.now ≡ [] → sink.new ≡ sink.old }
     ensures front { OnErr result (AppendsFront (W.written sink.old) (W.written sink.new) bytes.now) }
     ensures failed { OnErr result (Rose (W.faults sink.old) (W.faults sink.new)) }
     ensures never_falls { W.faults sink.old ≤ W.faults sink.new }

@@ -6,5 +6,6 @@ pub loop-done-preserved : goal.loop-done-preserved
 loop-done-preserved g c = record {
   within = search rules;
   written = written_more _ _ _ _ _ _ c.loop-done.invariant.written c.in_ok-done.ensures.appended.2;
+  untouched = λ none. search rules;
   faults = search rules;
 }

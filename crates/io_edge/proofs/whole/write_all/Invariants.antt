@@ -1,4 +1,4 @@
-use Rattle.std.proofs.Common.{◌≡◌, ◌-◌, ◌≤◌, take, length}
+use Rattle.std.proofs.Common.{◌≡◌, ◌-◌, ◌≤◌, [], take, length}
 use Rattle.io_edge.specs.Streams.{with_after}
 use Rattle.io_edge.proofs.whole.write_all.Given as goal
 
@@ -9,6 +9,7 @@ invariant-loop-done g l =
     record {
       within : l.done ≤ length l.bytes;
       written : s.written l.sink ≡ with_after (s.written l.fn.sink) (take l.done l.bytes);
+      untouched : l.bytes ≡ [] → l.sink ≡ l.fn.sink;
       faults : s.faults l.fn.sink ≤ s.faults l.sink;
     }
 
