@@ -8,7 +8,8 @@ use Rattle.slack_base.specs.declared.faults.ImageFault.{ImageFault}
 use Rattle.slack_base.specs.Images.{IsInMemory, IsApart, IsWordOf, Fits}
 use Rattle.image_load.specs.declared.layouts.Load.{Load}
 use Rattle.image_load.specs.declared.layouts.Layout.{Layout}
-use Rattle.image_load.specs.Checks.{Check, first_fault, unless_fault, is_in_memory, is_word_of}
+use Rattle.slack_base.specs.Checks.{first_fault, unless_fault}
+use Rattle.image_load.specs.Checks.{Check, is_in_memory, is_word_of}
 use Rattle.image_load.specs.Layouts.{segment_of, image_in}
 
 -- the first of checks that all hold, and the others

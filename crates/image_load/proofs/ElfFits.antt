@@ -5,7 +5,8 @@ use Rattle.std.proofs.lemmas.Bool.Decides.{nat_tests}
 use Rattle.slack_base.specs.declared.faults.ImageFault.TheVariants.{Short, Segment, Outside}
 use Rattle.image_load.specs.declared.layouts.Load.{Load}
 use Rattle.image_load.specs.declared.elf.ProgramHeader.{ProgramHeader}
-use Rattle.image_load.specs.Checks.{Check, first_fault, is_in_memory}
+use Rattle.slack_base.specs.Checks.{first_fault}
+use Rattle.image_load.specs.Checks.{Check, is_in_memory}
 use Rattle.image_load.specs.LoadChecks.{are_apart, overlap_check, checks_of, load_checks}
 use Rattle.image_load.specs.Elf.{elf_header, program_headers, is_load, loads_of, header_checks, elf_checks, elf_layout}
 use Rattle.image_load.proofs.Accepted.{none_failed, all_passed, word_from_test, range_from_test, IsLoadable, AreApart, AllApart, IsLoadableLayout}

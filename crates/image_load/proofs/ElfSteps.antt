@@ -5,7 +5,8 @@ use Rattle.slack_base.specs.declared.faults.ImageFault.TheVariants.{Entry}
 use Rattle.image_load.specs.declared.elf.ElfHeader.{ElfHeader}
 use Rattle.image_load.specs.declared.layouts.Load.{Load}
 use Rattle.image_load.specs.declared.layouts.Layout.{Layout}
-use Rattle.image_load.specs.Checks.{Check, first_fault, unless_fault, is_word_of}
+use Rattle.slack_base.specs.Checks.{first_fault, unless_fault}
+use Rattle.image_load.specs.Checks.{Check, is_word_of}
 use Rattle.image_load.specs.LoadChecks.{load_checks}
 use Rattle.image_load.specs.Elf.{elf_header, program_headers, loads_of, header_checks, elf_checks, elf_layout}
 use Rattle.image_load.proofs.Accepted.{accepted, refused, passed, found}

@@ -3,7 +3,7 @@ use Rattle.std.proofs.Common.{◌≡◌, ℕ, true, false, cond, List, Some, Non
 use Rattle.slack_base.specs.declared.faults.ImageFault.TheVariants.{Short, Magic}
 use Rattle.slack_base.specs.declared.images.Image.{Image}
 use Rattle.slack_base.specs.Images.{Fits}
-use Rattle.image_load.specs.Checks.{first_fault}
+use Rattle.slack_base.specs.Checks.{first_fault}
 use Rattle.image_load.specs.Elf.{is_elf, elf_header, elf_checks, elf_layout}
 use Rattle.image_load.specs.Flat.{is_flat, flat_header, flat_checks, flat_layout}
 use Rattle.image_load.specs.Layouts.{image_in}

@@ -4,7 +4,8 @@ use Rattle.std.proofs.lemmas.Bool.Decides.{nat_tests}
 use Rattle.slack_base.specs.declared.faults.ImageFault.TheVariants.{Short, Outside, Entry}
 use Rattle.image_load.specs.declared.flat.FlatHeader.{FlatHeader}
 use Rattle.image_load.specs.declared.layouts.Load.{Load}
-use Rattle.image_load.specs.Checks.{Check, first_fault, is_in_memory, is_word_of}
+use Rattle.slack_base.specs.Checks.{first_fault}
+use Rattle.image_load.specs.Checks.{Check, is_in_memory, is_word_of}
 use Rattle.image_load.specs.Flat.{flat_header, flat_checks, flat_layout}
 use Rattle.image_load.proofs.Accepted.{none_failed, word_from_test, range_from_test, IsLoadable, IsLoadableLayout}
 

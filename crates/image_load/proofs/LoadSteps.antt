@@ -6,7 +6,7 @@ use Rattle.slack_base.specs.declared.faults.ImageFault.{ImageFault}
 use Rattle.image_load.specs.declared.layouts.Load.{Load}
 use Rattle.image_load.specs.declared.elf.ElfHeader.{ElfHeader}
 use Rattle.image_load.specs.declared.elf.ProgramHeader.{ProgramHeader}
-use Rattle.image_load.specs.Checks.{first_fault}
+use Rattle.slack_base.specs.Checks.{first_fault}
 use Rattle.image_load.specs.LoadChecks.{checks_of, load_checks}
 use Rattle.image_load.specs.Elf.{program_header, program_headers, is_load, loads_of}
 use Rattle.image_load.proofs.Accepted.{passed, found}

@@ -11,12 +11,13 @@ use Rattle.slack_base.specs.declared.faults.ImageFault.TheVariants.{Short, Magic
 use Rattle.slack_base.specs.Images.{IsInMemory, Fits}
 use Rattle.image_load.specs.declared.flat.FlatHeader.{FlatHeader}
 use Rattle.image_load.specs.Fields.{u32_at}
-use Rattle.image_load.specs.Checks.{Check, first_fault, unless_fault, is_in_memory, is_word_of}
+use Rattle.slack_base.specs.Checks.{first_fault, unless_fault}
+use Rattle.image_load.specs.Checks.{Check, is_in_memory, is_word_of}
 use Rattle.image_load.specs.Elf.{is_elf, elf_header, elf_checks, elf_layout}
 use Rattle.image_load.specs.Flat.{is_flat, flat_header, flat_checks, flat_layout, flat_file}
 use Rattle.image_load.specs.Layouts.{image_in}
 use Rattle.image_load.specs.Reading.{fault_of, layout_of, image_of}
-use Rattle.image_load.specs.Writing.{one_piece}
+use Rattle.slack_base.specs.Images.{one_piece}
 
 -- the checks of a file with this header
 abbrev checks_under : (base memory have : ℕ) → FlatHeader → List Check

@@ -4,7 +4,7 @@ use Rattle.slack_base.specs.declared.images.Image.{Image}
 use Rattle.slack_base.specs.declared.faults.ImageFault.{ImageFault}
 use Rattle.slack_base.specs.declared.faults.ImageFault.TheVariants.{Short, Magic}
 use Rattle.image_load.specs.declared.layouts.Layout.{Layout}
-use Rattle.image_load.specs.Checks.{first_fault, unless_fault}
+use Rattle.slack_base.specs.Checks.{first_fault, unless_fault}
 use Rattle.image_load.specs.Elf.{is_elf, elf_header, elf_checks, elf_layout}
 use Rattle.image_load.specs.Flat.{is_flat, flat_header, flat_checks, flat_layout}
 use Rattle.image_load.specs.Layouts.{image_in}

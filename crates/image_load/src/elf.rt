@@ -1,6 +1,6 @@
 //! The format ELF32, as far as its program headers.
 ghost use Rattle.std.specs.Prelude.{◌≡◌, ◌+◌, ◌<◌, ◌≤◌, [], length, IfOk};
-ghost use Rattle.image_load.specs.Checks.{first_fault, unless_fault};
+ghost use Rattle.slack_base.specs.Checks.{first_fault, unless_fault};
 ghost use Rattle.image_load.specs.LoadChecks.{load_checks};
 ghost use Rattle.image_load.specs.Elf.{elf_header, program_header, program_headers, is_load, loads_of, is_executable, headers_end, header_checks, elf_layout, elf_checks};
 
@@ -101,7 +101,8 @@ fn is_executable(header: &ElfHeader) -> bool
 /// The pieces that the file loads, or the first fault of them.
 fn checked_loads(bytes: &[u8], config: &Config, header: &ElfHeader) -> Result<Loads, ImageFault>
     requires { 0 < header.now.header_count → headers_end header.now ≤ length bytes.now }
-    ensures { let loads = loads_of (program_headers bytes.now header.now) in result ≡ unless_fault (first_fault (load_checks config.now.base config.now.memory (length bytes.now) [] loads)) loads }
+    ensures { let loads = loads_of (program_headers bytes.now header.now) in
+        result ≡ unless_fault (first_fault (load_checks config.now.base config.now.memory (length bytes.now) [] loads)) loads }
 {
     let have = bytes.len() as u64;
     let mut loads = Loads::new();

@@ -1,6 +1,6 @@
 //! The format SLK1: one piece of memory.
 ghost use Rattle.std.specs.Prelude.{◌≡◌, ◌≤◌, length};
-ghost use Rattle.image_load.specs.Checks.{first_fault, unless_fault};
+ghost use Rattle.slack_base.specs.Checks.{first_fault, unless_fault};
 ghost use Rattle.image_load.specs.Flat.{flat_header, flat_checks, flat_layout};
 
 use crate::checks::{is_in_memory, is_word_of};

@@ -1,6 +1,6 @@
 //! The checks of a piece that an executable loads, after those before it.
 ghost use Rattle.std.specs.Prelude.{◌≡◌, ◌+◌, map};
-ghost use Rattle.image_load.specs.Checks.{first_fault};
+ghost use Rattle.slack_base.specs.Checks.{first_fault};
 ghost use Rattle.image_load.specs.LoadChecks.{are_apart, overlap_check, checks_of};
 
 use crate::checks::is_in_memory;

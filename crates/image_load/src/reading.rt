@@ -3,7 +3,7 @@ ghost use Rattle.std.specs.Prelude.{◌≡◌, ◌↔◌, Ok, Err, Some, IfOk, I
 ghost use Rattle.slack_base.specs.Images.{Fits};
 ghost use Rattle.slack_base.specs.declared.faults.ImageFault.{ImageFault};
 ghost use Rattle.image_load.specs.declared.reading.ImageError.TheVariants as errors;
-ghost use Rattle.image_load.specs.Checks.{unless_fault};
+ghost use Rattle.slack_base.specs.Checks.{unless_fault};
 ghost use Rattle.image_load.specs.Layouts.{image_in};
 ghost use Rattle.image_load.specs.Reading.{fault_of, layout_of, image_of};
 

@@ -4,7 +4,8 @@ ghost use Rattle.slack_base.specs.Images.{Fits};
 ghost use Rattle.slack_base.specs.declared.images.Segment.{Segment};
 ghost use Rattle.image_load.specs.Flat.{flat_file};
 ghost use Rattle.image_load.specs.Reading.{image_of};
-ghost use Rattle.image_load.specs.Writing.{IsOnePiece, one_piece};
+ghost use Rattle.slack_base.specs.Images.{one_piece};
+ghost use Rattle.image_load.specs.Writing.{IsOnePiece};
 
 use crate::flat::FlatHeader;
 use slack_base::{ByteList, Image, OutOfMemory};
@@ -31,7 +32,8 @@ pub fn flat_bytes(alloc: Global, image: &Image) -> Result<ByteList, OutOfMemory>
 fn flat_file(alloc: Global, header: &FlatHeader, bytes: &[u8]) -> Result<ByteList, OutOfMemory>
     requires { header.now.length ≡ length bytes.now }
     ensures file { IfOk result (λ file. file ≡ flat_file header.now.address header.now.entry bytes.now) }
-    ensures again { let image = one_piece header.now.address header.now.entry bytes.now in IfOk result (λ file. (base memory : ℕ) → Fits base memory image → image_of base memory file ≡ Ok image) }
+    ensures again { let image = one_piece header.now.address header.now.entry bytes.now in
+        IfOk result (λ file. (base memory : ℕ) → Fits base memory image → image_of base memory file ≡ Ok image) }
 {
     let mut file = Vec::new(alloc);
     file.extend_from_slice(b"SLK1")?;

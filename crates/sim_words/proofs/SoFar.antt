@@ -6,7 +6,7 @@ use Rattle.slack_base.specs.declared.faults.WordFault.{WordFault}
 use Rattle.slack_base.specs.declared.faults.WordFault.TheVariants as fault
 use Rattle.sim_words.specs.declared.commands.Command.{Command}
 use Rattle.sim_words.specs.declared.options.OptionName.{OptionName}
-use Rattle.sim_words.specs.Checks.{first_fault, or_else}
+use Rattle.slack_base.specs.Checks.{first_fault, or_else}
 use Rattle.sim_words.specs.Given.{is_given, flags_of, is_flagged}
 use Rattle.sim_words.specs.Options.{option_of, index_of}
 use Rattle.sim_words.specs.Pairs.{pairs_from, pairs_fault, pair_fault, word_checks, checks_for, is_again, is_dashed, with_pair, with_value_of}

@@ -5,7 +5,7 @@ use Rattle.std.specs.List.{position_or_len, before_first, after_first}
 use Rattle.slack_base.specs.declared.steps.Step.{Step}
 use Rattle.slack_base.specs.declared.steps.Step.TheVariants.{Tick, Serve, Take}
 use Rattle.sim_words.specs.declared.items.Item.{Item}
-use Rattle.sim_words.specs.Numerals.{numeral_of}
+use Rattle.sim_words.specs.Numerals.{short_numeral}
 
 infixl 10 ◌>>=◌
 abbrev pub ◌>>=◌ : {A B : Type 0} → Option A → (A → Option B) → Option B
@@ -29,12 +29,12 @@ parts_of text = if nat_lt (position_or_len is_times text) (length text) then Som
 
 -- how often: a number of one to five digits, from 1
 unfoldable pub count_of : List ℕ → Option ℕ
-count_of text = numeral_of 5 text >>= λ count. if nat_le 1 count then Some count else None
+count_of text = short_numeral 5 text >>= λ count. if nat_le 1 count then Some count else None
 
 -- a core, of one or two digits, and how often: once where there is no `x`
 abbrev pub core_and_count : List ℕ → Option (List ℕ × List ℕ) → Option (ℕ × ℕ)
-core_and_count text None = numeral_of 2 text >>= λ core. Some (core, 1)
-core_and_count text (Some parts) = numeral_of 2 parts.0 >>= λ core. count_of parts.1 >>= λ count. Some (core, count)
+core_and_count text None = short_numeral 2 text >>= λ core. Some (core, 1)
+core_and_count text (Some parts) = short_numeral 2 parts.0 >>= λ core. count_of parts.1 >>= λ count. Some (core, count)
 
 -- a letter, and then a core and how often
 unfoldable pub item_of : List ℕ → Option Item

@@ -1,10 +1,10 @@
-pub mod Checks
 pub mod Commands
-pub mod Contents
 pub mod Given
 pub mod Items
+pub mod NewOptions
 pub mod Numerals
 pub mod Options
+pub mod OrderValues
 pub mod Pairs
 pub mod Reading
 pub mod Settings

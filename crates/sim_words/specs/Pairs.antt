@@ -6,7 +6,7 @@ use Rattle.slack_base.specs.declared.faults.WordFault.{WordFault}
 use Rattle.slack_base.specs.declared.faults.WordFault.TheVariants as fault
 use Rattle.sim_words.specs.declared.commands.Command.{Command}
 use Rattle.sim_words.specs.declared.options.OptionName.{OptionName}
-use Rattle.sim_words.specs.Checks.{first_fault, or_else}
+use Rattle.slack_base.specs.Checks.{first_fault, or_else}
 use Rattle.sim_words.specs.Given.{is_given}
 use Rattle.sim_words.specs.Options.{option_of}
 use Rattle.sim_words.specs.Settings.{Choices, defaults, with_value, value_checks}

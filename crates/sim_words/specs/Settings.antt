@@ -2,7 +2,7 @@
 use Rattle.std.specs.Prelude.{ℕ, ◌==◌, Bool, true, false, not, List, [], ◌∷◌, is_some, is_none, unwrap_or}
 use Rattle.slack_base.specs.declared.faults.WordFault.{WordFault}
 use Rattle.slack_base.specs.declared.faults.WordFault.TheVariants as fault
-use Rattle.slack_base.specs.declared.limits.RawConfig.{RawConfig}
+use Rattle.slack_base.specs.declared.configs.RawConfig.{RawConfig}
 use Rattle.sim_words.specs.declared.options.NumberOption.{NumberOption}
 use Rattle.sim_words.specs.declared.options.NumberOption.TheVariants.{Base, Memory, Cores, Sets, Ways, Buses, Snoop, MemoryDelay, Transfer, Occupancy, Slack, Interval, Limit, Quantum, Seed}
 use Rattle.sim_words.specs.declared.options.OptionName.{OptionName}

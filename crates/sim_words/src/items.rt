@@ -3,7 +3,7 @@ ghost use Rattle.std.specs.Prelude.{◌≡◌, ◌+◌, ◌≤◌, IfSome, lengt
 ghost use Rattle.sim_words.specs.Items.{step_of, is_times, parts_of, count_of, core_and_count, item_of, GivesParts};
 ghost use Rattle.std.specs.List.{position};
 
-use crate::numerals::numeral_of;
+use crate::numerals::short_numeral;
 use slack_base::Step;
 
 /// A step, and how often it comes.
@@ -35,10 +35,10 @@ fn core_and_count(text: &[u8]) -> Option<(u32, u32)>
 {
     match parts_of(text) {
         Some((core, count)) => {
-            let core = numeral_of(core, 2)?;
+            let core = short_numeral(core, 2)?;
             Some((core, count_of(count)?))
         }
-        None => Some((numeral_of(text, 2)?, 1)),
+        None => Some((short_numeral(text, 2)?, 1)),
     }
 }
 
@@ -48,7 +48,7 @@ fn count_of(text: &[u8]) -> Option<u32>
     ensures count { result ≡ count_of text.now }
     ensures short { IfSome result (λ count. (length text.now ≤ 5) × (1 ≤ count)) }
 {
-    let count = numeral_of(text, 5)?;
+    let count = short_numeral(text, 5)?;
     if count >= 1 { Some(count) } else { None }
 }
 

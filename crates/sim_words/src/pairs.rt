@@ -1,9 +1,8 @@
 //! The pairs of an option and a value.
 ghost use Rattle.std.specs.Prelude.{◌≡◌, ◌+◌, ◌<◌, [], None, Some, false, length, slice_index_or, drop, MatchResult};
-ghost use Rattle.sim_words.specs.Checks.{first_fault};
-ghost use Rattle.sim_words.specs.Given.{is_flagged};
-ghost use Rattle.sim_words.specs.Options.{option_of};
-ghost use Rattle.sim_words.specs.Pairs.{pairs_from, pairs_fault, choices_in, word_checks};
+ghost use Rattle.slack_base.specs.Checks.{first_fault, Reads};
+ghost use Rattle.sim_words.specs.NewOptions.{IsNewOption, word_fault};
+ghost use Rattle.sim_words.specs.Pairs.{pairs_from, pairs_fault, choices_in};
 
 use crate::commands::Command;
 use crate::given::Given;
@@ -15,7 +14,7 @@ use slack_base::{Arg, WordFault};
 /// that has one.
 pub(crate) fn settings_in(command: Command, words: &[Arg]) -> Result<Settings<'_>, WordFault>
     requires { 0 < length words.now }
-    ensures { MatchResult result (λ settings. (pairs_fault command [] (pairs_from 1 (drop 1 words.now)) ≡ None) × (settings ≡ choices_in command (pairs_from 1 (drop 1 words.now)))) (λ fault. pairs_fault command [] (pairs_from 1 (drop 1 words.now)) ≡ Some fault) }
+    ensures { let pairs = pairs_from 1 (drop 1 words.now) in Reads (pairs_fault command [] pairs) (choices_in command pairs) result }
 {
     let mut settings = Settings::defaults();
     let mut given = Given::none();
@@ -37,7 +36,8 @@ fn option_at(
     place: u32,
     word: &[u8],
 ) -> Result<OptionName, WordFault>
-    ensures { MatchResult result (λ option. (first_fault (word_checks command (is_flagged given.now.flags) place word.now) ≡ None) × (option_of command word.now ≡ Some option) × (is_flagged given.now.flags option ≡ false)) (λ fault. first_fault (word_checks command (is_flagged given.now.flags) place word.now) ≡ Some fault) }
+    ensures { let flags = given.now.flags in let fault = word_fault command flags place word.now in
+        MatchResult result (IsNewOption fault command flags word.now) (λ f. fault ≡ Some f) }
 {
     if !word.starts_with(b"--") {
         return Err(WordFault::Form { place });

@@ -1,10 +1,11 @@
 //! Reading the command words.
 ghost use Rattle.std.specs.Prelude.{◌≡◌, ◌≤◌, ◌↔◌, None, Some, Ok, Err, IfOk, IsErrOf, MatchResult};
+ghost use Rattle.slack_base.specs.declared.bounds.TheConstants.{GENERATED_MEMORY};
 ghost use Rattle.slack_base.specs.Bounds.{settled};
 ghost use Rattle.slack_base.specs.Numbers.{numbers_of};
 ghost use Rattle.slack_base.specs.declared.faults.WordFault.{WordFault};
 ghost use Rattle.sim_words.specs.declared.reading.WordError.TheVariants as errors;
-ghost use Rattle.sim_words.specs.Contents.{contents_of, contents_in};
+ghost use Rattle.sim_words.specs.OrderValues.{order_value, order_value_in};
 ghost use Rattle.sim_words.specs.Reading.{bound_fault, words_of};
 
 use crate::commands::{Command, command_of};
@@ -40,9 +41,9 @@ impl From<OutOfMemory> for WordError {
 /// value, each option once at most, in any order. Words with a fault are answered by their first fault, and
 /// never by want of memory. Places are counted from 0.
 pub fn read_words(alloc: Global, words: &[Arg]) -> Result<Order, WordError>
-    ensures order { IfOk result (λ order. words_of words.now ≡ Ok (contents_of order)) }
+    ensures order { IfOk result (λ order. words_of words.now ≡ Ok (order_value order)) }
     ensures fault { (fault : WordFault) → (IsErrOf result (WordError.Fault fault) ↔ (words_of words.now ≡ Err fault)) }
-    ensures room { IfOk result (λ order. order.command ≡ Command.Gen → 131072 ≤ order.config.memory) }
+    ensures room { IfOk result (λ order. order.command ≡ Command.Gen → GENERATED_MEMORY ≤ order.config.memory) }
 {
     let request = request_of(words).map_err(WordError::Fault)?;
     let settings = request.settings;
@@ -69,8 +70,9 @@ struct Request<'a> {
 /// What the words say, or their first fault. It takes no memory.
 #[tactic(auto, unfolding(crate::specs::Reading::words_of))]
 fn request_of(words: &[Arg]) -> Result<Request<'_>, WordFault>
-    ensures contents { MatchResult result (λ request. words_of words.now ≡ Ok (contents_in request.command (numbers_of request.config) request.settings)) (λ fault. words_of words.now ≡ Err fault) }
-    ensures room { IfOk result (λ request. request.command ≡ Command.Gen → 131072 ≤ request.config.memory) }
+    ensures contents { let order = words_of words.now in
+        MatchResult result (λ r. order ≡ Ok (order_value_in r.command (numbers_of r.config) r.settings)) (λ fault. order ≡ Err fault) }
+    ensures room { IfOk result (λ request. request.command ≡ Command.Gen → GENERATED_MEMORY ≤ request.config.memory) }
 {
     let Some(word) = words.first() else {
         return Err(WordFault::Empty);
@@ -88,8 +90,9 @@ fn request_of(words: &[Arg]) -> Result<Request<'_>, WordFault>
 /// The configuration of these numbers for a command, or the fault of the first bound that they break.
 #[tactic(auto, unfolding(crate::specs::Reading::bound_fault))]
 fn config_for(command: Command, numbers: RawConfig) -> Result<Config, WordFault>
-    ensures numbers { MatchResult result (λ config. (bound_fault command numbers ≡ None) × (numbers_of config ≡ settled numbers)) (λ fault. bound_fault command numbers ≡ Some fault) }
-    ensures room { IfOk result (λ config. command ≡ Command.Gen → 131072 ≤ config.memory) }
+    ensures numbers { let fault = bound_fault command numbers in
+        MatchResult result (λ config. (fault ≡ None) × (numbers_of config ≡ settled numbers)) (λ f. fault ≡ Some f) }
+    ensures room { IfOk result (λ config. command ≡ Command.Gen → GENERATED_MEMORY ≤ config.memory) }
 {
     let config = Config::checked(numbers).map_err(WordFault::Bound)?;
     match command {

@@ -1,6 +1,6 @@
 //! What the options say.
-ghost use Rattle.std.specs.Prelude.{◌≡◌, None, Some, IfOk, IfErr, MatchResult};
-ghost use Rattle.sim_words.specs.Checks.{first_fault};
+ghost use Rattle.std.specs.Prelude.{◌≡◌, None, Some, IfOk, IfErr};
+ghost use Rattle.slack_base.specs.Checks.{first_fault, Reads};
 ghost use Rattle.sim_words.specs.Settings.{defaults, is_value, value_checks, with_number, with_value};
 
 use crate::numerals::number_of;
@@ -36,22 +36,7 @@ impl<'a> Settings<'a> {
         ensures { result ≡ defaults }
     {
         Settings {
-            numbers: RawConfig {
-                cores: 1,
-                base: 0,
-                memory: 1048576,
-                sets: 16,
-                ways: 4,
-                buses: 1,
-                snoop: 2,
-                memory_delay: 10,
-                transfer: 3,
-                occupancy: 2,
-                slack: 8,
-                interval: 1000,
-                limit: 1000000,
-                quantum: 0,
-            },
+            numbers: RawConfig::DEFAULT,
             mode: Mode::Lockstep,
             format: Format::Text,
             notes: false,
@@ -67,7 +52,7 @@ impl<'a> Settings<'a> {
         value: &'a [u8],
         place: u32,
     ) -> Result<Settings<'a>, WordFault>
-        ensures { MatchResult result (λ settings. (first_fault (value_checks option place value.now) ≡ None) × (settings ≡ with_value option value.now self.entry)) (λ fault. first_fault (value_checks option place value.now) ≡ Some fault) }
+        ensures { Reads (first_fault (value_checks option place value.now)) (with_value option value.now self.entry) result }
     {
         if !is_value(value) {
             return Err(WordFault::Form { place });

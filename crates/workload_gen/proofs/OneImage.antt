@@ -1,11 +1,12 @@
 -- The words of instructions are the only ones.
 use Rattle.std.proofs.Common.{◌≡◌, ℕ, ◌^◌, ◌<◌, List, [], ◌∷◌, refl, sym, ap, ◌∙◌}
-use Rattle.std.specs.Int.{to_le_bytes, w32}
-use Rattle.std.specs.List.{AllZip, flat_map}
+use Rattle.std.specs.List.{AllZip}
+use Rattle.slack_base.specs.Images.{one_piece}
+use Rattle.slack_base.specs.LittleEndian.{bytes_of_words}
 use Rattle.slack_base.specs.declared.images.Image.{Image}
 use Rattle.slack_base.specs.declared.instructions.Instr.{Instr}
 use Rattle.rv_decode.specs.Encodes.{Encodes}
-use Rattle.workload_gen.specs.Programs.{IsWordFor, IsProgram, image_at}
+use Rattle.workload_gen.specs.Programs.{IsWordFor, IsProgram}
 
 -- an instruction has one word at most
 abbrev pub IsOneWord : Type 0
@@ -23,5 +24,5 @@ same_words one (i ∷ instrs) (v ∷ vs) (w ∷ ws) p q =
 pub same_image : IsOneWord → (seed base : ℕ) (x y : Image) → IsProgram seed base x → IsProgram seed base y → x ≡ y
 same_image one seed base x y p q =
     p.whole
-    ∙ ap (image_at base) (p.words.whole ∙ ap (flat_map (to_le_bytes w32)) (same_words one _ p.words.words q.words.words p.words.each q.words.each) ∙ sym q.words.whole)
+    ∙ ap (one_piece base base) (p.words.whole ∙ ap bytes_of_words (same_words one _ p.words.words q.words.words p.words.each q.words.each) ∙ sym q.words.whole)
     ∙ sym q.whole

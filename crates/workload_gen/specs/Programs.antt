@@ -1,7 +1,8 @@
 -- Generated programs.
-use Rattle.std.specs.Prelude.{◌≡◌, ℕ, pos, ◌+◌, ◌^◌, ◌<◌, List, [], ◌∷◌, ◌++◌, map, length, flat_map}
-use Rattle.std.specs.Int.{to_le_bytes, w32}
+use Rattle.std.specs.Prelude.{◌≡◌, ℕ, pos, ◌+◌, ◌^◌, ◌<◌, List, [], ◌∷◌, ◌++◌, map}
 use Rattle.std.specs.List.{AllZip}
+use Rattle.slack_base.specs.Images.{one_piece}
+use Rattle.slack_base.specs.LittleEndian.{bytes_of_words}
 use Rattle.slack_base.specs.declared.images.Image.{Image}
 use Rattle.slack_base.specs.declared.instructions.Instr.{Instr}
 use Rattle.slack_base.specs.declared.instructions.Instr.TheVariants.{Lui, Imm, Ecall}
@@ -31,17 +32,10 @@ IsWordFor word instr = (word < 2 ^ 32) × Encodes word instr
 pub record AreBytesOf (instrs : List Instr) (bytes : List ℕ) : Type 0 where
   pub words : List ℕ
   pub each : AllZip IsWordFor words instrs
-  pub whole : bytes ≡ flat_map (to_le_bytes w32) words
-
--- the image of some bytes: one segment, which begins at base
-abbrev pub image_at : ℕ → List ℕ → Image
-image_at base bytes = record {
-  entry = base;
-  segments = record { address = base; bytes = bytes; size = length bytes } ∷ [];
-}
+  pub whole : bytes ≡ bytes_of_words words
 
 -- the image is that of the program of a seed
 pub record IsProgram (seed base : ℕ) (image : Image) : Type 0 where
   pub bytes : List ℕ
   pub words : AreBytesOf (program seed base) bytes
-  pub whole : image ≡ image_at base bytes
+  pub whole : image ≡ one_piece base base bytes

@@ -1,14 +1,15 @@
 //! Generated programs.
 ghost use Rattle.std.specs.Prelude.{◌≡◌, ◌+◌, ◌^◌, ◌<◌, ◌≤◌, All, IfOk, length};
+ghost use Rattle.slack_base.specs.declared.bounds.TheConstants.{GENERATED_MEMORY};
 ghost use Rattle.slack_base.specs.Images.{Fits};
 ghost use Rattle.rv_decode.specs.Ranges.{IsInRange};
-ghost use Rattle.workload_gen.specs.Programs.{IsProgram, AreBytesOf, program, head, tail, image_at};
+ghost use Rattle.workload_gen.specs.Programs.{IsProgram, AreBytesOf, program, head, tail};
 
 use crate::choices::instruction;
 use crate::draws::Draws;
 use crate::registers::{ARGUMENT, DATA, SERVICE, SUM};
 use rv_decode::encode;
-use slack_base::{ByteList, Config, Image, ImmOp, Instr, OutOfMemory, Segment, SegmentList};
+use slack_base::{Config, Image, ImmOp, Instr, OutOfMemory};
 use std::alloc::Global;
 
 /// How many instructions of a program are drawn.
@@ -23,31 +24,13 @@ const EXIT: i32 = 93;
 /// The program of a seed: 1005 words from the base of memory on, its entry. It loads and stores the 64 words that
 /// lie 65536 bytes further, and then exits with the code 0.
 pub fn program(alloc: Global, seed: u32, config: &Config) -> Result<Image, OutOfMemory>
-    requires { 131072 ≤ config.now.memory }
+    requires { GENERATED_MEMORY ≤ config.now.memory }
     ensures image { IfOk result (IsProgram seed config.now.base) }
     ensures fits { IfOk result (Fits config.now.base config.now.memory) }
 {
     let instructions = instructions(alloc, seed, config.base)?;
     let bytes = bytes_of(alloc, instructions.as_slice())?;
-    image_at(alloc, config.base, bytes)
-}
-
-/// The image of some bytes: one segment, which begins at `base`, the entry.
-fn image_at(alloc: Global, base: u32, bytes: Vec<u8>) -> Result<Image, OutOfMemory>
-    requires { length bytes.items < 2 ^ 32 }
-    ensures { IfOk result (λ image. image ≡ image_at base bytes.items) }
-{
-    let size = bytes.len() as u32;
-    let mut segments = SegmentList::new(alloc);
-    segments.push(Segment {
-        address: base,
-        bytes: ByteList::of(bytes),
-        size,
-    })?;
-    Ok(Image {
-        entry: base,
-        segments,
-    })
+    Image::one_piece(alloc, config.base, config.base, bytes)
 }
 
 /// The instructions of the program of a seed.

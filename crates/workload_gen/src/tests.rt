@@ -21,23 +21,6 @@ fn draws_the_published_words(rt: HostRuntime) {
     }
 }
 
-const DEFAULT: RawConfig = RawConfig {
-    cores: 1,
-    base: 0,
-    memory: 1048576,
-    sets: 16,
-    ways: 4,
-    buses: 1,
-    snoop: 2,
-    memory_delay: 10,
-    transfer: 3,
-    occupancy: 2,
-    slack: 8,
-    interval: 1000,
-    limit: 1000000,
-    quantum: 0,
-};
-
 /// The places of a program's words, and what stands there with the seed 7 at the base 0.
 const LISTED: [(usize, u32); 17] = [
     (0, 0x00010437), // lui x8, 16
@@ -61,7 +44,7 @@ const LISTED: [(usize, u32); 17] = [
 
 #[test]
 fn words_of_a_program(rt: HostRuntime) -> Result<(), Fail> {
-    let Ok(config) = Config::checked(DEFAULT) else {
+    let Ok(config) = Config::checked(RawConfig::DEFAULT) else {
         assert!(rt; false, "the defaults are refused");
         return Ok(());
     };
@@ -91,7 +74,7 @@ fn a_program_at_the_end_of_the_address_space(rt: HostRuntime) -> Result<(), Fail
     let raw = RawConfig {
         base: 0xfffe0000,
         memory: 131072,
-        ..DEFAULT
+        ..RawConfig::DEFAULT
     };
     let Ok(config) = Config::checked(raw) else {
         assert!(rt; false, "the last base is refused");

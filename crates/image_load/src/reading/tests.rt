@@ -17,20 +17,9 @@ const BODY: [u8; 12] = [
 /// A memory of so many bytes from a base on.
 fn memory_of(base: u32, memory: u32) -> Option<Config> {
     Config::checked(RawConfig {
-        cores: 1,
         base,
         memory,
-        sets: 16,
-        ways: 4,
-        buses: 1,
-        snoop: 2,
-        memory_delay: 10,
-        transfer: 3,
-        occupancy: 2,
-        slack: 8,
-        interval: 1000,
-        limit: 1000000,
-        quantum: 0,
+        ..RawConfig::DEFAULT
     })
     .ok()
 }
@@ -89,18 +78,26 @@ struct Elf<'a> {
     pieces: &'a [Piece],
 }
 
+/// An executable with the body as its one piece.
+const ONE_PIECE: Elf<'static> = Elf {
+    class: 1,
+    encoding: 1,
+    file_type: 2,
+    machine: 243,
+    entry: 65536,
+    headers_offset: 52,
+    header_size: 32,
+    count: 1,
+    pieces: &[LOADED],
+};
+
 /// An executable with these program headers.
 fn executable<'a>(entry: u32, count: u16, pieces: &'a [Piece]) -> Elf<'a> {
     Elf {
-        class: 1,
-        encoding: 1,
-        file_type: 2,
-        machine: 243,
         entry,
-        headers_offset: 52,
-        header_size: 32,
         count,
         pieces,
+        ..ONE_PIECE
     }
 }
 
@@ -155,33 +152,10 @@ fn short(have: u64, need: u64) -> Option<ImageFault> {
     Some(ImageFault::Short { have, need })
 }
 
-/// The fault of a piece that is no piece of memory.
-fn outside(index: u32) -> Option<ImageFault> {
-    Some(ImageFault::Outside { index })
-}
-
 /// The fault of a header whose sizes or number are wrong.
 fn segment(index: u32) -> Option<ImageFault> {
     Some(ImageFault::Segment { index })
 }
-
-/// The fault of two pieces that share an address.
-fn overlap(first: u32, second: u32) -> Option<ImageFault> {
-    Some(ImageFault::Overlap { first, second })
-}
-
-/// An entry, and whether it is the address of a word of 1 MiB of memory from address 0 on.
-const ENTRIES: [(u32, bool); 9] = [
-    (0, true),
-    (65537, false),
-    (65538, false),
-    (65539, false),
-    (65540, true),
-    (1048572, true),
-    (1048573, false),
-    (1048576, false),
-    (4294967292, false),
-];
 
 /// The image of one segment.
 fn one_segment(

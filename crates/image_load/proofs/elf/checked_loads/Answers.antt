@@ -1,5 +1,5 @@
 use Rattle.std.proofs.Common.{Ok, ap, sym, ◌∙◌, length}
-use Rattle.image_load.specs.Checks.{unless_fault}
+use Rattle.slack_base.specs.Checks.{unless_fault}
 use Rattle.image_load.specs.Elf.{program_headers, loads_of}
 use Rattle.image_load.proofs.ElfFits.{has_room}
 use Rattle.image_load.proofs.LoadSteps.{split_end, split_pass, split_take, split_fault}

@@ -1,5 +1,5 @@
 use Rattle.std.proofs.Common.{◌≡◌, drop, map}
-use Rattle.image_load.specs.Checks.{first_fault}
+use Rattle.slack_base.specs.Checks.{first_fault}
 use Rattle.image_load.specs.LoadChecks.{overlap_check}
 use Rattle.image_load.proofs.load_checks.overlap.Given as goal
 

@@ -1,7 +1,7 @@
 use Rattle.std.proofs.Common.{◌≡◌, Ok, arith, rules, sym, subst}
 use Rattle.image_load.specs.Flat.{flat_file}
 use Rattle.image_load.specs.Reading.{image_of}
-use Rattle.image_load.specs.Writing.{one_piece}
+use Rattle.slack_base.specs.Images.{one_piece}
 use Rattle.image_load.proofs.ReadAgain.{read_again}
 use Rattle.image_load.proofs.writing.flat_file.Goals as goal
 

@@ -23,135 +23,83 @@ fn one_piece(rt: HostRuntime) -> Result<(), Fail> {
     Ok(())
 }
 
-/// The sizes of a piece, and its place in the file.
-#[test]
-fn sizes_and_offsets(rt: HostRuntime) -> Result<(), Fail> {
-    let config = config().ok_or("the numbers are within their bounds")?;
-    let rows = [
-        (piece_of(84, 65536, 12, 11), segment(0)),
-        (piece_of(84, 65536, 5, 0), segment(0)),
-        (piece_of(85, 65536, 12, 12), short(96, 97)),
-        (piece_of(84, 65536, 13, 13), short(96, 97)),
-        (piece_of(4294967295, 65536, 1, 1), short(96, 4294967296)),
-        (
-            piece_of(84, 65536, 4294967295, 4294967295),
-            short(96, 4294967379),
-        ),
-        (piece_of(96, 65536, 0, 4), None),
-        (piece_of(4294967295, 65536, 0, 4), None),
-        (piece_of(0, 65536, 96, 96), None),
-    ];
-    for (piece, fault) in rows {
-        let pieces = [piece];
-        let elf = executable(65536, 1, &pieces);
-        assert_eq!(rt;
-            fault_in(rt.alloc(), &elf, &config)?,
-            fault,
-            "{} of {}, {}",
-            piece.offset,
-            piece.file_size,
-            piece.memory_size
-        );
-    }
-    Ok(())
-}
+/// Twelve bytes at 65536.
+#[rattlefmt::skip]
+const TWELVE: Piece = Piece { kind: 1, offset: 0, address: 65536, file_size: 0, memory_size: 12 };
+
+/// The first eight bytes of memory.
+#[rattlefmt::skip]
+const LOW: Piece = Piece { kind: 1, offset: 0, address: 0, file_size: 0, memory_size: 8 };
+
+/// The next eight bytes.
+#[rattlefmt::skip]
+const HIGH: Piece = Piece { kind: 1, offset: 0, address: 8, file_size: 0, memory_size: 8 };
+
+/// A header of another type.
+#[rattlefmt::skip]
+const OTHER: Piece = Piece { kind: 4, offset: 0, address: 4294967295, file_size: 0, memory_size: 9 };
+
+/// A piece far behind the file, and behind memory.
+#[rattlefmt::skip]
+const FAR: Piece = Piece { kind: 1, offset: 4294967295, address: 1048576, file_size: 1, memory_size: 1 };
+
+/// The entry of a file, its program headers, and its first fault.
+type Row = (u32, &'static [Piece], Option<ImageFault>);
+
+#[rattlefmt::skip]
+const PIECES: [Row; 39] = [
+    // the sizes of a piece, and its place in the file
+    (65536, &[Piece { kind: 1, offset: 84, address: 65536, file_size: 12, memory_size: 11 }], Some(ImageFault::Segment { index: 0 })),
+    (65536, &[Piece { kind: 1, offset: 84, address: 65536, file_size: 5, memory_size: 0 }], Some(ImageFault::Segment { index: 0 })),
+    (65536, &[Piece { kind: 1, offset: 85, address: 65536, file_size: 12, memory_size: 12 }], Some(ImageFault::Short { have: 96, need: 97 })),
+    (65536, &[Piece { kind: 1, offset: 84, address: 65536, file_size: 13, memory_size: 13 }], Some(ImageFault::Short { have: 96, need: 97 })),
+    (65536, &[Piece { kind: 1, offset: 4294967295, address: 65536, file_size: 1, memory_size: 1 }], Some(ImageFault::Short { have: 96, need: 4294967296 })),
+    (65536, &[Piece { kind: 1, offset: 84, address: 65536, file_size: 4294967295, memory_size: 4294967295 }], Some(ImageFault::Short { have: 96, need: 4294967379 })),
+    (65536, &[Piece { kind: 1, offset: 96, address: 65536, file_size: 0, memory_size: 4 }], None),
+    (65536, &[Piece { kind: 1, offset: 4294967295, address: 65536, file_size: 0, memory_size: 4 }], None),
+    (65536, &[Piece { kind: 1, offset: 0, address: 65536, file_size: 96, memory_size: 96 }], None),
+    // addresses
+    (0, &[Piece { kind: 1, offset: 0, address: 0, file_size: 0, memory_size: 1048576 }], None),
+    (0, &[Piece { kind: 1, offset: 0, address: 0, file_size: 0, memory_size: 1048577 }], Some(ImageFault::Outside { index: 0 })),
+    (0, &[Piece { kind: 1, offset: 0, address: 1, file_size: 0, memory_size: 1048576 }], Some(ImageFault::Outside { index: 0 })),
+    (0, &[Piece { kind: 1, offset: 0, address: 1048564, file_size: 0, memory_size: 13 }], Some(ImageFault::Outside { index: 0 })),
+    (0, &[Piece { kind: 1, offset: 0, address: 1048575, file_size: 0, memory_size: 1 }], None),
+    (0, &[Piece { kind: 1, offset: 0, address: 1048576, file_size: 0, memory_size: 1 }], Some(ImageFault::Outside { index: 0 })),
+    (0, &[Piece { kind: 1, offset: 0, address: 4294967295, file_size: 0, memory_size: 1 }], Some(ImageFault::Outside { index: 0 })),
+    (0, &[Piece { kind: 1, offset: 0, address: 4294967295, file_size: 0, memory_size: 2 }], Some(ImageFault::Outside { index: 0 })),
+    (0, &[Piece { kind: 1, offset: 0, address: 65536, file_size: 0, memory_size: 4294967295 }], Some(ImageFault::Outside { index: 0 })),
+    // a piece beside one of 12 bytes at 65536: before it, behind it, and with one byte or all in common
+    (65536, &[TWELVE, Piece { kind: 1, offset: 0, address: 65532, file_size: 0, memory_size: 4 }], None),
+    (65536, &[TWELVE, Piece { kind: 1, offset: 0, address: 65532, file_size: 0, memory_size: 5 }], Some(ImageFault::Overlap { first: 0, second: 1 })),
+    (65536, &[TWELVE, Piece { kind: 1, offset: 0, address: 65536, file_size: 0, memory_size: 12 }], Some(ImageFault::Overlap { first: 0, second: 1 })),
+    (65536, &[TWELVE, Piece { kind: 1, offset: 0, address: 65540, file_size: 0, memory_size: 4 }], Some(ImageFault::Overlap { first: 0, second: 1 })),
+    (65536, &[TWELVE, Piece { kind: 1, offset: 0, address: 65540, file_size: 0, memory_size: 0 }], None),
+    (65536, &[TWELVE, Piece { kind: 1, offset: 0, address: 65000, file_size: 0, memory_size: 2000 }], Some(ImageFault::Overlap { first: 0, second: 1 })),
+    (65536, &[TWELVE, Piece { kind: 1, offset: 0, address: 65547, file_size: 0, memory_size: 1 }], Some(ImageFault::Overlap { first: 0, second: 1 })),
+    (65536, &[TWELVE, Piece { kind: 1, offset: 0, address: 65548, file_size: 0, memory_size: 1 }], None),
+    // headers are numbered with those of other types and those of empty pieces, and the first that overlaps is named
+    (0, &[OTHER, LOW, HIGH, Piece { kind: 1, offset: 0, address: 7, file_size: 0, memory_size: 2 }], Some(ImageFault::Overlap { first: 1, second: 3 })),
+    (0, &[LOW, OTHER, HIGH, Piece { kind: 1, offset: 0, address: 8, file_size: 0, memory_size: 2 }], Some(ImageFault::Overlap { first: 2, second: 3 })),
+    (0, &[Piece { kind: 1, offset: 0, address: 0, file_size: 0, memory_size: 0 }, LOW, Piece { kind: 1, offset: 0, address: 7, file_size: 0, memory_size: 9 }, HIGH], Some(ImageFault::Overlap { first: 1, second: 2 })),
+    (0, &[OTHER, LOW, OTHER, Piece { kind: 1, offset: 0, address: 1048576, file_size: 0, memory_size: 1 }], Some(ImageFault::Outside { index: 3 })),
+    (0, &[OTHER, LOW, OTHER, Piece { kind: 1, offset: 0, address: 16, file_size: 2, memory_size: 1 }], Some(ImageFault::Segment { index: 3 })),
+    (0, &[OTHER, Piece { kind: 1, offset: 0, address: 4294967295, file_size: 0, memory_size: 0 }, LOW, HIGH], None),
+    // each header is tested whole before the next, and the entry after all of them
+    (2, &[Piece { kind: 1, offset: 4294967295, address: 1048576, file_size: 2, memory_size: 1 }, LOW], Some(ImageFault::Segment { index: 0 })),
+    (2, &[FAR, LOW], Some(ImageFault::Short { have: 128, need: 4294967296 })),
+    (2, &[Piece { kind: 1, offset: 0, address: 1048576, file_size: 0, memory_size: 1 }, FAR], Some(ImageFault::Outside { index: 0 })),
+    (2, &[Piece { kind: 1, offset: 0, address: 0, file_size: 0, memory_size: 1048577 }, Piece { kind: 1, offset: 0, address: 0, file_size: 2, memory_size: 1 }], Some(ImageFault::Outside { index: 0 })),
+    (2, &[LOW, Piece { kind: 1, offset: 0, address: 7, file_size: 0, memory_size: 1048576 }], Some(ImageFault::Outside { index: 1 })),
+    (2, &[LOW, LOW], Some(ImageFault::Overlap { first: 0, second: 1 })),
+    (2, &[LOW, HIGH], Some(ImageFault::Entry { entry: 2 })),
+];
 
 #[test]
-fn addresses(rt: HostRuntime) -> Result<(), Fail> {
+fn pieces(rt: HostRuntime) -> Result<(), Fail> {
     let config = config().ok_or("the numbers are within their bounds")?;
-    let rows = [
-        (0, 1048576, None),
-        (0, 1048577, outside(0)),
-        (1, 1048576, outside(0)),
-        (1048564, 13, outside(0)),
-        (1048575, 1, None),
-        (1048576, 1, outside(0)),
-        (4294967295, 1, outside(0)),
-        (4294967295, 2, outside(0)),
-        (65536, 4294967295, outside(0)),
-    ];
-    for (address, size, fault) in rows {
-        let pieces = [zeros_of(address, size)];
-        let elf = executable(0, 1, &pieces);
-        assert_eq!(rt;
-            fault_in(rt.alloc(), &elf, &config)?,
-            fault,
-            "{size} at {address}"
-        );
-    }
-    Ok(())
-}
-
-/// A piece beside one of 12 bytes at 65536: before it, behind it, and with one byte or all in common.
-#[test]
-fn two_pieces(rt: HostRuntime) -> Result<(), Fail> {
-    let config = config().ok_or("the numbers are within their bounds")?;
-    let rows = [
-        (zeros_of(65532, 4), None),
-        (zeros_of(65532, 5), overlap(0, 1)),
-        (zeros_of(65536, 12), overlap(0, 1)),
-        (zeros_of(65540, 4), overlap(0, 1)),
-        (zeros_of(65540, 0), None),
-        (zeros_of(65000, 2000), overlap(0, 1)),
-        (zeros_of(65547, 1), overlap(0, 1)),
-        (zeros_of(65548, 1), None),
-    ];
-    for (second, fault) in rows {
-        let pieces = [zeros_of(65536, 12), second];
-        let elf = executable(65536, 2, &pieces);
-        assert_eq!(rt;
-            fault_in(rt.alloc(), &elf, &config)?,
-            fault,
-            "{} at {}",
-            second.memory_size,
-            second.address
-        );
-    }
-    Ok(())
-}
-
-/// Headers are numbered with those of other types and those of empty pieces, and the first that overlaps is named.
-#[test]
-fn numbers_of_headers(rt: HostRuntime) -> Result<(), Fail> {
-    let config = config().ok_or("the numbers are within their bounds")?;
-    let other = Piece {
-        kind: 4,
-        ..zeros_of(4294967295, 9)
-    };
-    let (low, high) = (zeros_of(0, 8), zeros_of(8, 8));
-    let rows = [
-        ([other, low, high, zeros_of(7, 2)], overlap(1, 3)),
-        ([low, other, high, zeros_of(8, 2)], overlap(2, 3)),
-        ([zeros_of(0, 0), low, zeros_of(7, 9), high], overlap(1, 2)),
-        ([other, low, other, zeros_of(1048576, 1)], outside(3)),
-        ([other, low, other, piece_of(0, 16, 2, 1)], segment(3)),
-        ([other, zeros_of(4294967295, 0), low, high], None),
-    ];
-    for (pieces, fault) in rows {
-        let elf = executable(0, 4, &pieces);
-        assert_eq!(rt; fault_in(rt.alloc(), &elf, &config)?, fault);
-    }
-    Ok(())
-}
-
-/// Each header is tested whole before the next, and the entry after all of them.
-#[test]
-fn the_order_of_faults(rt: HostRuntime) -> Result<(), Fail> {
-    let config = config().ok_or("the numbers are within their bounds")?;
-    let low = zeros_of(0, 8);
-    let far = piece_of(4294967295, 1048576, 1, 1);
-    let rows = [
-        ([piece_of(4294967295, 1048576, 2, 1), low], segment(0)),
-        ([far, low], short(128, 4294967296)),
-        ([zeros_of(1048576, 1), far], outside(0)),
-        ([zeros_of(0, 1048577), piece_of(0, 0, 2, 1)], outside(0)),
-        ([low, zeros_of(7, 1048576)], outside(1)),
-        ([low, low], overlap(0, 1)),
-        ([low, zeros_of(8, 8)], Some(ImageFault::Entry { entry: 2 })),
-    ];
-    for (pieces, fault) in rows {
-        let elf = executable(2, 2, &pieces);
-        assert_eq!(rt; fault_in(rt.alloc(), &elf, &config)?, fault);
+    for (entry, pieces, fault) in &PIECES {
+        let elf = executable(*entry, u16::try_from(pieces.len())?, pieces);
+        assert_eq!(rt; fault_in(rt.alloc(), &elf, &config)?, *fault);
     }
     Ok(())
 }

@@ -21,37 +21,24 @@ fn flat_file(alloc: Global, address: u32, entry: u32, length: u32) -> Result<Vec
     Ok(file)
 }
 
-/// The first fault of such a file.
-fn flat_fault(
-    alloc: Global,
-    config: &Config,
-    address: u32,
-    entry: u32,
-    length: u32,
-) -> Result<Option<ImageFault>, AllocError> {
-    let file = flat_file(alloc, address, entry, length)?;
-    Ok(image_fault(&file, config))
-}
+const MAGICS: [&'static [u8]; 10] = [
+    b"SLK0",
+    b"SLk1",
+    b"SlK1",
+    b"tLK1",
+    b"1KLS",
+    b"\x7eELF",
+    b"\x7feLF",
+    b"\x7fElF",
+    b"\x7fELG",
+    b"\0\0\0\0",
+];
 
 #[test]
 fn magics(rt: HostRuntime) -> Result<(), Fail> {
     let config = config().ok_or("the numbers are within their bounds")?;
-    for magic in [
-        b"SLK0",
-        b"SLk1",
-        b"SlK1",
-        b"tLK1",
-        b"1KLS",
-        b"\x7eELF",
-        b"\x7feLF",
-        b"\x7fElF",
-        b"\x7fELG",
-        b"\0\0\0\0",
-    ] {
-        assert_eq!(rt;
-            image_fault(magic.as_slice(), &config),
-            Some(ImageFault::Magic)
-        );
+    for magic in MAGICS {
+        assert_eq!(rt; image_fault(magic, &config), Some(ImageFault::Magic));
     }
     Ok(())
 }
@@ -96,103 +83,74 @@ fn a_file_is_written(rt: HostRuntime) -> Result<(), Fail> {
     Ok(())
 }
 
-/// The last byte of the body is behind the piece, and a file without a piece has no address.
+/// Where memory begins and how much there is, the numbers at the head of a file with the body (address, entry and
+/// length), and its first fault.
+type Row = ((u32, u32), u32, u32, u32, Option<ImageFault>);
+
+#[rattlefmt::skip]
+const HEADS: [Row; 31] = [
+    // the last byte of the body may be behind the piece
+    ((0, 1048576), 0, 0, 12, None),
+    ((0, 1048576), 0, 0, 13, Some(ImageFault::Short { have: 28, need: 29 })),
+    ((0, 1048576), 0, 0, 11, None),
+    ((0, 1048576), 0, 0, 4294967295, Some(ImageFault::Short { have: 28, need: 4294967311 })),
+    // addresses; a file without a piece has none
+    ((0, 1048576), 1, 0, 12, None),
+    ((0, 1048576), 1048564, 0, 12, None),
+    ((0, 1048576), 1048565, 0, 12, Some(ImageFault::Outside { index: 0 })),
+    ((0, 1048576), 1048576, 0, 12, Some(ImageFault::Outside { index: 0 })),
+    ((0, 1048576), 4294967284, 0, 12, Some(ImageFault::Outside { index: 0 })),
+    ((0, 1048576), 4294967295, 0, 12, Some(ImageFault::Outside { index: 0 })),
+    ((0, 1048576), 4294967295, 0, 0, None),
+    // a memory that doesn't begin at address 0, and one that ends at the last address
+    ((4096, 4096), 4095, 4096, 12, Some(ImageFault::Outside { index: 0 })),
+    ((4096, 4096), 4096, 4096, 12, None),
+    ((4096, 4096), 4096, 4092, 12, Some(ImageFault::Entry { entry: 4092 })),
+    ((4096, 4096), 8180, 8188, 12, None),
+    ((4096, 4096), 8181, 8188, 12, Some(ImageFault::Outside { index: 0 })),
+    ((4096, 4096), 8180, 8192, 12, Some(ImageFault::Entry { entry: 8192 })),
+    ((4294963200, 4096), 4294967284, 4294967292, 12, None),
+    ((4294963200, 4096), 4294967285, 4294967292, 12, Some(ImageFault::Outside { index: 0 })),
+    ((4294963200, 4096), 4294967284, 0, 12, Some(ImageFault::Entry { entry: 0 })),
+    // entries
+    ((0, 1048576), 0, 0, 12, None),
+    ((0, 1048576), 0, 65537, 12, Some(ImageFault::Entry { entry: 65537 })),
+    ((0, 1048576), 0, 65538, 12, Some(ImageFault::Entry { entry: 65538 })),
+    ((0, 1048576), 0, 65539, 12, Some(ImageFault::Entry { entry: 65539 })),
+    ((0, 1048576), 0, 65540, 12, None),
+    ((0, 1048576), 0, 1048572, 12, None),
+    ((0, 1048576), 0, 1048573, 12, Some(ImageFault::Entry { entry: 1048573 })),
+    ((0, 1048576), 0, 1048576, 12, Some(ImageFault::Entry { entry: 1048576 })),
+    ((0, 1048576), 0, 4294967292, 12, Some(ImageFault::Entry { entry: 4294967292 })),
+    // the number of bytes is tested before the addresses, and the piece before the entry
+    ((0, 1048576), 1048576, 1, 13, Some(ImageFault::Short { have: 28, need: 29 })),
+    ((0, 1048576), 1048576, 1, 12, Some(ImageFault::Outside { index: 0 })),
+];
+
+#[test]
+fn heads(rt: HostRuntime) -> Result<(), Fail> {
+    for ((base, memory), address, entry, length, fault) in HEADS {
+        let config = memory_of(base, memory).ok_or("the numbers are within their bounds")?;
+        let file = flat_file(rt.alloc(), address, entry, length)?;
+        assert_eq!(rt;
+            image_fault(&file, &config),
+            fault,
+            "{address}, {entry}, {length}"
+        );
+    }
+    Ok(())
+}
+
+/// A piece that is shorter than the file, and a file without a piece.
 #[test]
 fn lengths(rt: HostRuntime) -> Result<(), Fail> {
     let config = config().ok_or("the numbers are within their bounds")?;
     let alloc = rt.alloc();
-    assert_eq!(rt; flat_fault(alloc, &config, 0, 0, 12)?, None);
-    assert_eq!(rt; flat_fault(alloc, &config, 0, 0, 13)?, short(28, 29));
-    assert_eq!(rt;
-        flat_fault(alloc, &config, 0, 0, 4294967295)?,
-        short(28, 4294967311)
-    );
     let cut = read_image(alloc, &flat_file(alloc, 8, 4, 11)?, &config)?;
     assert_eq!(rt; cut, one_segment(alloc, 4, 8, &BODY[..11], 11)?);
     let empty = read_image(alloc, &flat_file(alloc, 4294967295, 4, 0)?, &config)?;
     let segments = SegmentList::new(alloc);
     assert_eq!(rt; empty, Image { entry: 4, segments });
-    Ok(())
-}
-
-#[test]
-fn addresses(rt: HostRuntime) -> Result<(), Fail> {
-    let config = config().ok_or("the numbers are within their bounds")?;
-    let rows = [
-        (0, None),
-        (1, None),
-        (1048564, None),
-        (1048565, outside(0)),
-        (1048576, outside(0)),
-        (4294967284, outside(0)),
-        (4294967295, outside(0)),
-    ];
-    for (address, fault) in rows {
-        assert_eq!(rt;
-            flat_fault(rt.alloc(), &config, address, 0, 12)?,
-            fault,
-            "at {address}"
-        );
-    }
-    Ok(())
-}
-
-/// A memory that doesn't begin at address 0, and one that ends at the last address.
-#[test]
-fn memories(rt: HostRuntime) -> Result<(), Fail> {
-    let rows = [
-        (4096, 4095, 4096, outside(0)),
-        (4096, 4096, 4096, None),
-        (4096, 4096, 4092, Some(ImageFault::Entry { entry: 4092 })),
-        (4096, 8180, 8188, None),
-        (4096, 8181, 8188, outside(0)),
-        (4096, 8180, 8192, Some(ImageFault::Entry { entry: 8192 })),
-        (4294963200, 4294967284, 4294967292, None),
-        (4294963200, 4294967285, 4294967292, outside(0)),
-        (
-            4294963200,
-            4294967284,
-            0,
-            Some(ImageFault::Entry { entry: 0 }),
-        ),
-    ];
-    for (base, address, entry, fault) in rows {
-        let config = memory_of(base, 4096).ok_or("the numbers are within their bounds")?;
-        assert_eq!(rt;
-            flat_fault(rt.alloc(), &config, address, entry, 12)?,
-            fault,
-            "at {address}, {entry}"
-        );
-    }
-    Ok(())
-}
-
-#[test]
-fn entries(rt: HostRuntime) -> Result<(), Fail> {
-    let config = config().ok_or("the numbers are within their bounds")?;
-    for (entry, is_word) in ENTRIES {
-        let fault = (!is_word).then_some(ImageFault::Entry { entry });
-        assert_eq!(rt;
-            flat_fault(rt.alloc(), &config, 0, entry, 12)?,
-            fault,
-            "at {entry}"
-        );
-    }
-    Ok(())
-}
-
-/// The number of bytes is tested before the addresses, and the piece before the entry.
-#[test]
-fn the_order_of_faults(rt: HostRuntime) -> Result<(), Fail> {
-    let config = config().ok_or("the numbers are within their bounds")?;
-    assert_eq!(rt;
-        flat_fault(rt.alloc(), &config, 1048576, 1, 13)?,
-        short(28, 29)
-    );
-    assert_eq!(rt;
-        flat_fault(rt.alloc(), &config, 1048576, 1, 12)?,
-        outside(0)
-    );
     Ok(())
 }
 
@@ -205,6 +163,9 @@ fn a_file_larger_than_memory(rt: HostRuntime) -> Result<(), Fail> {
     let zeros = vec![in rt.alloc(); 0u8; 8388592]?;
     file.extend_from_slice(&zeros)?;
     assert_eq!(rt; file.len(), 8388608);
-    assert_eq!(rt; image_fault(&file, &config), outside(0));
+    assert_eq!(rt;
+        image_fault(&file, &config),
+        Some(ImageFault::Outside { index: 0 })
+    );
     Ok(())
 }

@@ -1,6 +1,6 @@
--- What an order contains.
+-- What a contract sees of an order.
 use Rattle.std.specs.Prelude.{ℕ, Bool, List}
-use Rattle.slack_base.specs.declared.limits.RawConfig.{RawConfig}
+use Rattle.slack_base.specs.declared.configs.RawConfig.{RawConfig}
 use Rattle.slack_base.specs.declared.steps.Step.{Step}
 use Rattle.slack_base.specs.Numbers.{numbers_of}
 use Rattle.sim_words.specs.declared.commands.Command.{Command}
@@ -11,7 +11,7 @@ use Rattle.sim_words.specs.Settings.{Choices}
 use Rattle.sim_words.specs.Steps.{steps_of}
 
 -- an order, with the numbers of its configuration
-pub record Contents : Type 0 where
+pub record OrderValue : Type 0 where
   pub command : Command
   pub numbers : RawConfig
   pub mode : Mode
@@ -20,8 +20,8 @@ pub record Contents : Type 0 where
   pub seed : ℕ
   pub steps : List Step
 
-abbrev pub contents_of : Order → Contents
-contents_of order = record {
+abbrev pub order_value : Order → OrderValue
+order_value order = record {
   command = order.command;
   numbers = numbers_of order.config;
   mode = order.mode;
@@ -31,9 +31,9 @@ contents_of order = record {
   steps = order.steps;
 }
 
--- the contents for a command and what its options say
-abbrev pub contents_in : Command → RawConfig → Choices → Contents
-contents_in command numbers choices = record {
+-- the order of a command, with what its options say
+abbrev pub order_value_in : Command → RawConfig → Choices → OrderValue
+order_value_in command numbers choices = record {
   command = command;
   numbers = numbers;
   mode = choices.mode;
