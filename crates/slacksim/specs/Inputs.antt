@@ -1,13 +1,14 @@
 -- What a command reads, and which inputs it refuses.
-use Rattle.std.specs.Prelude.{◌≡◌, ℕ, ◌+◌, List, [], Option, Some, None, Result, Ok, Err, IfSome}
+use Rattle.std.specs.Prelude.{◌≡◌, ℕ, ◌+◌, ◌<◌, ◌≤◌, ◌^◌, List, [], length, Option, Some, None, Result, Ok, Err, IfSome}
+use Rattle.io_edge.specs.Counting.{Rose}
 use Rattle.slack_base.specs.declared.images.Image.{Image}
 use Rattle.slack_base.specs.declared.faults.ImageFault.{ImageFault}
 use Rattle.slack_base.specs.declared.faults.AsmFault.{AsmFault}
-use Rattle.slack_base.specs.declared.limits.RawConfig.{RawConfig}
+use Rattle.slack_base.specs.declared.configs.RawConfig.{RawConfig}
 use Rattle.image_load.specs.Reading.{image_of}
 use Rattle.rv_asm.specs.Instructions.{Code}
 use Rattle.rv_asm.specs.Programs.{program_of}
-use Rattle.sim_words.specs.Contents.{Contents}
+use Rattle.sim_words.specs.OrderValues.{OrderValue}
 use Rattle.sim_words.specs.declared.commands.Command.{Command}
 use Rattle.sim_words.specs.declared.commands.Command.TheVariants as command
 use Rattle.slacksim.specs.declared.answers.Answer.{Answer}
@@ -26,10 +27,18 @@ abbrev pub IsInput : Command → (left left_after : Option (List ℕ)) → List 
 IsInput command.Gen left left_after bytes = left_after ≡ left
 IsInput _ left left_after bytes = IfSome left (λ told. (bytes ≡ told) × (left_after ≡ Some []))
 
--- the source tells these bytes; `gen` asks for none
-abbrev pub Tells : Command → Option (List ℕ) → List ℕ → Type 0
-Tells command.Gen left bytes = Unit {0}
-Tells _ left bytes = left ≡ Some bytes
+-- the source gives these bytes as a whole input: it tells them, they are not too many, fewer than 2^63 bytes were taken
+-- from it before, and it doesn't fail
+pub record Gives (left : Option (List ℕ)) (taken faults faults_after : ℕ) (bytes : List ℕ) : Type 0 where
+  pub told : left ≡ Some bytes
+  pub short : length bytes ≤ most_bytes
+  pub counted : taken < 2 ^ 63
+  pub unfailing : ¬ Rose faults faults_after
+
+-- these bytes are the whole input of a command; `gen` reads nothing, and asks nothing of its source
+abbrev pub GivesTo : Command → (left : Option (List ℕ)) → (taken faults faults_after : ℕ) → List ℕ → Type 0
+GivesTo command.Gen left taken faults faults_after bytes = Unit {0}
+GivesTo _ left taken faults faults_after bytes = Gives left taken faults faults_after bytes
 
 abbrev pub image_refusal : Result Image ImageFault → Option Answer
 image_refusal (Ok image) = None
@@ -46,7 +55,7 @@ refusal_by command.Gen config bytes = None
 refusal_by command.Asm config bytes = text_refusal (program_of bytes)
 refusal_by command.List config bytes = image_refusal (image_told config bytes)
 
-abbrev pub refusal_of : Contents → List ℕ → Option Answer
+abbrev pub refusal_of : OrderValue → List ℕ → Option Answer
 refusal_of order bytes = refusal_by order.command order.numbers bytes
 
 -- the input was refused for a fault of its own
@@ -61,3 +70,11 @@ IsUnread ReadFault = Unit {0}
 IsUnread (TooLong taken) = taken ≡ most_bytes + 1
 IsUnread OutOfMemory = Unit {0}
 IsUnread _ = ⊥
+
+-- one byte more than an input may have was taken
+abbrev pub TookTooMany : (taken taken_after : ℕ) → Type 0
+TookTooMany taken taken_after = taken_after ≡ taken + (most_bytes + 1)
+
+-- the whole input was read, and its own fault is the answer
+abbrev pub RefusesAll : OrderValue → (left left_after : Option (List ℕ)) → Answer → Type 0
+RefusesAll order left left_after answer = IfSome left (λ told. (refusal_of order told ≡ Some answer) × (left_after ≡ Some []))

@@ -1,4 +1,5 @@
 pub mod Answers
+pub mod Ended
 pub mod Ends
 pub mod Inputs
 pub mod Orders

@@ -2,8 +2,10 @@
 use Rattle.std.specs.Prelude.{◌≡◌, ℕ, List, Option}
 use Rattle.io_edge.specs.Streams.{with_after}
 use Rattle.io_edge.specs.Whole.{AppendsFront}
-use Rattle.lockstep_model.specs.declared.machine.Machine.{Machine}
-use Rattle.sim_words.specs.Contents.{Contents}
+use Rattle.bus_model.specs.Channels.{ChannelValue}
+use Rattle.timed_core.specs.Cores.{HartValue}
+use Rattle.target_law.specs.Cycles.{StateValue}
+use Rattle.sim_words.specs.OrderValues.{OrderValue}
 use Rattle.slacksim.specs.Inputs.{IsInput}
 use Rattle.slacksim.specs.Outputs.{IsOutput}
 use Rattle.slacksim.specs.declared.answers.Answer.{Answer}
@@ -17,7 +19,7 @@ IsWritten WriteFault written written_after text = AppendsFront written written_a
 IsWritten _ written written_after text = ⊥
 
 -- a call read its input, and wrote the text that its command makes of it
-pub record Wrote (order : Contents) (answer : Answer) (end : Option Machine) (left left_after written written_after : Option (List ℕ)) : Type 0 where
+pub record Wrote (order : OrderValue) (answer : Answer) (end : Option (StateValue HartValue ChannelValue)) (left left_after written written_after : Option (List ℕ)) : Type 0 where
   pub input : List ℕ
   pub read : IsInput order.command left left_after input
   pub text : List ℕ

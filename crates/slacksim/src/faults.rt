@@ -1,8 +1,8 @@
 //! What a user reads of a fault.
 
 use crate::answers::Answer;
+use plain_text::Text;
 use slack_base::{AsmFault, AsmKind, ByteList, ConfigFault, ImageFault, OutOfMemory, WordFault};
-use stat_report::Text;
 use std::alloc::Global;
 
 /// The text of an answer's fault: empty for a run that came to its end.

@@ -1,7 +1,7 @@
 //! Reading the input of a command.
-ghost use Rattle.std.specs.Prelude.{◌≡◌, ◌+◌, ◌<◌, ◌≤◌, ◌^◌, ◌↔◌, length, IfOk, IfErr, IfSome, IsOk, IsErrOf};
+ghost use Rattle.std.specs.Prelude.{ℕ, List, ◌≡◌, ◌+◌, ◌<◌, ◌≤◌, ◌^◌, ◌↔◌, length, IfOk, IfErr, IfSome, IsOk, IsErrOf};
 ghost use Rattle.io_edge.specs.Counting.{Rose};
-ghost use Rattle.slacksim.specs.Inputs.{IsInput, IsUnread, most_bytes};
+ghost use Rattle.slacksim.specs.Inputs.{GivesTo, IsInput, IsUnread, TookTooMany, most_bytes};
 
 use crate::answers::Answer;
 use io_edge::{ReadAllError, Source, read_all};
@@ -23,8 +23,10 @@ pub fn read_input<S: Source>(
     ensures unread { IfErr result IsUnread }
     ensures generated { command ≡ Command.Gen → (source.new ≡ source.old) × IsOk result }
     ensures read_fault { IsErrOf result Answer.ReadFault → Rose (S.faults source.old) (S.faults source.new) }
-    ensures too_long { S.taken source.old < 2 ^ 63 → (IsErrOf result (Answer.TooLong (most_bytes + 1)) ↔ (S.taken source.new ≡ S.taken source.old + (most_bytes + 1))) }
+    ensures too_long { S.taken source.old < 2 ^ 63 → (IsErrOf result (Answer.TooLong (most_bytes + 1)) ↔ TookTooMany (S.taken source.old) (S.taken source.new)) }
     ensures no_more { S.taken source.old < 2 ^ 63 → S.taken source.new ≤ S.taken source.old + (most_bytes + 1) }
+    ensures given { (bytes : List ℕ) → GivesTo command (S.left source.old) (S.taken source.old) (S.faults source.old) (S.faults source.new) bytes
+        → IfErr result (λ answer. answer ≡ Answer.OutOfMemory) }
     ensures told { S.taken source.old < 2 ^ 63 → IfSome (S.left source.old) (λ told. S.taken source.new ≤ S.taken source.old + length told) }
 {
     if command == Command::Gen {

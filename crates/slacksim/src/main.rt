@@ -8,6 +8,7 @@ mod orders;
 mod outputs;
 mod runs;
 mod simulation;
+mod texts;
 
 use faults::fault_text;
 use io_edge::{NeverHold, StdSink, StdSource};

@@ -1,7 +1,8 @@
 //! The orders that are carried out.
 ghost use Rattle.std.specs.Prelude.{◌≡◌, ◌≤◌, ◌⊎◌, Ok, Err, IfOk, IsErrOf};
+ghost use Rattle.slack_base.specs.declared.bounds.TheConstants.{GENERATED_MEMORY};
 ghost use Rattle.slack_base.specs.declared.faults.WordFault.{WordFault};
-ghost use Rattle.sim_words.specs.Contents.{contents_of};
+ghost use Rattle.sim_words.specs.OrderValues.{order_value};
 ghost use Rattle.sim_words.specs.Reading.{words_of};
 ghost use Rattle.slacksim.specs.Orders.{order_of, is_built};
 
@@ -12,8 +13,8 @@ use std::alloc::Global;
 /// The order that the words give, in a mode that is there.
 #[tactic(auto, unfolding(crate::specs::Orders::order_of))]
 pub fn read_order(alloc: Global, words: &[Arg]) -> Result<Order, WordError>
-    ensures order { IfOk result (λ order. order_of words.now ≡ Ok (contents_of order)) }
-    ensures room { IfOk result (λ order. order.command ≡ Command.Gen → 131072 ≤ order.config.memory) }
+    ensures order { IfOk result (λ order. order_of words.now ≡ Ok (order_value order)) }
+    ensures room { IfOk result (λ order. order.command ≡ Command.Gen → GENERATED_MEMORY ≤ order.config.memory) }
     ensures fault { (fault : WordFault) → IsErrOf result (WordError.Fault fault) → order_of words.now ≡ Err fault }
     ensures exact { (fault : WordFault) → words_of words.now ≡ Err fault → IsErrOf result (WordError.Fault fault) }
     ensures refused { (fault : WordFault) → order_of words.now ≡ Err fault → IsErrOf result (WordError.Fault fault) ⊎ IsErrOf result WordError.OutOfMemory }

@@ -1,16 +1,20 @@
 //! What a command makes of its input.
 ghost use Rattle.std.specs.Prelude.{◌≡◌, ◌<◌, ◌≤◌, ◌^◌, ◌⊎◌, Ok, Some, None, length, true, IfOk, IfErr};
+ghost use Rattle.slack_base.specs.declared.bounds.TheConstants.{GENERATED_MEMORY, MOST_CORES};
 ghost use Rattle.slack_base.specs.Images.{Fits};
 ghost use Rattle.slack_base.specs.Numbers.{numbers_of};
 ghost use Rattle.rv_asm.specs.Programs.{IsAssembly, program_of};
-ghost use Rattle.sim_words.specs.Contents.{contents_of};
+ghost use Rattle.sim_words.specs.OrderValues.{order_value};
 ghost use Rattle.stat_report.specs.Listing.{IsListing};
-ghost use Rattle.slacksim.specs.Answers.{IsWhole, answer_at, answer_of, all_zero_of, is_zero_exit, running_of};
+ghost use Rattle.lockstep_model.specs.Views.{machine_of};
+ghost use Rattle.slacksim.specs.Answers.{IsRefusedBy, IsWhole, answer_at, answer_of, all_zero_of, is_zero_exit, running_of};
 ghost use Rattle.slacksim.specs.Inputs.{image_told, image_refusal, text_refusal, refusal_by};
+ghost use Rattle.slacksim.specs.Ended.{value_at};
 ghost use Rattle.slacksim.specs.Outputs.{IsOutputBy, IsRunOutput, IsGenOutput, IsAsmOutput, IsListOutput};
 
 use crate::answers::Answer;
-use crate::runs::{run_image, text_of_gen, text_of_run};
+use crate::runs::run_image;
+use crate::texts::{text_of_gen, text_of_run};
 use image_load::{ImageError, flat_bytes, read_image};
 use lockstep_model::Machine;
 use rv_asm::{AsmError, assemble};
@@ -43,12 +47,12 @@ impl From<OutOfMemory> for Answer {
 /// What the command of an order makes of its input, or the answer for an input that has a fault.
 pub fn output_of(alloc: Global, order: &Order, input: &[u8]) -> Result<Output, Answer>
     requires short { length input.now < 2 ^ 32 }
-    requires room { order.now.command ≡ Command.Gen → 131072 ≤ order.now.config.memory }
-    ensures output { IfOk result (λ out. IsOutputBy order.now.command (contents_of order.now) input.now out.end out.text) }
-    ensures answer { IfOk result (λ out. out.answer ≡ answer_at out.end) }
+    requires room { order.now.command ≡ Command.Gen → GENERATED_MEMORY ≤ order.now.config.memory }
+    ensures output { IfOk result (λ out. IsOutputBy order.now.command (order_value order.now) input.now (value_at out.end) out.text) }
+    ensures answer { IfOk result (λ out. out.answer ≡ answer_at (value_at out.end)) }
     ensures whole { IfOk result (λ out. IsWhole out.answer) }
     ensures accepted { IfOk result (λ _. refusal_by order.now.command (numbers_of order.now.config) input.now ≡ None) }
-    ensures refused { IfErr result (λ answer. (answer ≡ Answer.OutOfMemory) ⊎ (refusal_by order.now.command (numbers_of order.now.config) input.now ≡ Some answer)) }
+    ensures refused { IfErr result (IsRefusedBy (refusal_by order.now.command (numbers_of order.now.config) input.now)) }
 {
     match order.command {
         Command::Run => run_output(alloc, order, input),
@@ -60,11 +64,11 @@ pub fn output_of(alloc: Global, order: &Order, input: &[u8]) -> Result<Output, A
 
 /// `run`: the image that the input gives is run.
 fn run_output(alloc: Global, order: &Order, input: &[u8]) -> Result<Output, Answer>
-    ensures output { IfOk result (λ out. IsRunOutput (contents_of order.now) input.now out.end out.text) }
-    ensures answer { IfOk result (λ out. out.answer ≡ answer_at out.end) }
+    ensures output { IfOk result (λ out. IsRunOutput (order_value order.now) input.now (value_at out.end) out.text) }
+    ensures answer { IfOk result (λ out. out.answer ≡ answer_at (value_at out.end)) }
     ensures whole { IfOk result (λ out. IsWhole out.answer) }
     ensures accepted { IfOk result (λ _. image_refusal (image_told (numbers_of order.now.config) input.now) ≡ None) }
-    ensures refused { IfErr result (λ answer. (answer ≡ Answer.OutOfMemory) ⊎ (image_refusal (image_told (numbers_of order.now.config) input.now) ≡ Some answer)) }
+    ensures refused { IfErr result (IsRefusedBy (image_refusal (image_told (numbers_of order.now.config) input.now))) }
 {
     let image = image_in(alloc, &order.config, input)?;
     let machine = run_image(alloc, &order.config, &image)?;
@@ -74,9 +78,9 @@ fn run_output(alloc: Global, order: &Order, input: &[u8]) -> Result<Output, Answ
 
 /// `gen`: the program of the seed is run.
 fn gen_output(alloc: Global, order: &Order) -> Result<Output, OutOfMemory>
-    requires { 131072 ≤ order.now.config.memory }
-    ensures output { IfOk result (λ out. IsGenOutput (contents_of order.now) out.end out.text) }
-    ensures answer { IfOk result (λ out. out.answer ≡ answer_at out.end) }
+    requires { GENERATED_MEMORY ≤ order.now.config.memory }
+    ensures output { IfOk result (λ out. IsGenOutput (order_value order.now) (value_at out.end) out.text) }
+    ensures answer { IfOk result (λ out. out.answer ≡ answer_at (value_at out.end)) }
     ensures whole { IfOk result (λ out. IsWhole out.answer) }
 {
     let image = program(alloc, order.seed, &order.config)?;
@@ -88,11 +92,11 @@ fn gen_output(alloc: Global, order: &Order) -> Result<Output, OutOfMemory>
 /// `asm`: the flat file of the program that the input says.
 fn asm_output(alloc: Global, order: &Order, input: &[u8]) -> Result<Output, Answer>
     requires { length input.now < 2 ^ 32 }
-    ensures output { IfOk result (λ out. IsAsmOutput (contents_of order.now) input.now out.end out.text) }
-    ensures answer { IfOk result (λ out. out.answer ≡ answer_at out.end) }
+    ensures output { IfOk result (λ out. IsAsmOutput (order_value order.now) input.now (value_at out.end) out.text) }
+    ensures answer { IfOk result (λ out. out.answer ≡ answer_at (value_at out.end)) }
     ensures whole { IfOk result (λ out. IsWhole out.answer) }
     ensures accepted { IfOk result (λ _. text_refusal (program_of input.now) ≡ None) }
-    ensures refused { IfErr result (λ answer. (answer ≡ Answer.OutOfMemory) ⊎ (text_refusal (program_of input.now) ≡ Some answer)) }
+    ensures refused { IfErr result (IsRefusedBy (text_refusal (program_of input.now))) }
 {
     let image = assembly_in(alloc, order.config.base, input)?;
     let text = flat_bytes(alloc, &image)?;
@@ -101,11 +105,11 @@ fn asm_output(alloc: Global, order: &Order, input: &[u8]) -> Result<Output, Answ
 
 /// `list`: the listing of the image that the input gives.
 fn list_output(alloc: Global, order: &Order, input: &[u8]) -> Result<Output, Answer>
-    ensures output { IfOk result (λ out. IsListOutput (contents_of order.now) input.now out.end out.text) }
-    ensures answer { IfOk result (λ out. out.answer ≡ answer_at out.end) }
+    ensures output { IfOk result (λ out. IsListOutput (order_value order.now) input.now (value_at out.end) out.text) }
+    ensures answer { IfOk result (λ out. out.answer ≡ answer_at (value_at out.end)) }
     ensures whole { IfOk result (λ out. IsWhole out.answer) }
     ensures accepted { IfOk result (λ _. image_refusal (image_told (numbers_of order.now.config) input.now) ≡ None) }
-    ensures refused { IfErr result (λ answer. (answer ≡ Answer.OutOfMemory) ⊎ (image_refusal (image_told (numbers_of order.now.config) input.now) ≡ Some answer)) }
+    ensures refused { IfErr result (IsRefusedBy (image_refusal (image_told (numbers_of order.now.config) input.now))) }
 {
     let image = image_in(alloc, &order.config, input)?;
     let text = listing_of(alloc, &order.config, &image)?;
@@ -116,7 +120,7 @@ fn list_output(alloc: Global, order: &Order, input: &[u8]) -> Result<Output, Ans
 fn image_in(alloc: Global, config: &Config, input: &[u8]) -> Result<Image, Answer>
     ensures image { IfOk result (λ image. image_told (numbers_of config.now) input.now ≡ Ok image) }
     ensures fits { IfOk result (λ image. Fits config.now.base config.now.memory image) }
-    ensures refused { IfErr result (λ answer. (answer ≡ Answer.OutOfMemory) ⊎ (image_refusal (image_told (numbers_of config.now) input.now) ≡ Some answer)) }
+    ensures refused { IfErr result (IsRefusedBy (image_refusal (image_told (numbers_of config.now) input.now))) }
 {
     match read_image(alloc, input, config) {
         Ok(image) => Ok(image),
@@ -129,7 +133,7 @@ fn image_in(alloc: Global, config: &Config, input: &[u8]) -> Result<Image, Answe
 fn assembly_in(alloc: Global, base: u32, input: &[u8]) -> Result<Image, Answer>
     requires { length input.now < 2 ^ 32 }
     ensures image { IfOk result (IsAssembly input.now base) }
-    ensures refused { IfErr result (λ answer. (answer ≡ Answer.OutOfMemory) ⊎ (text_refusal (program_of input.now) ≡ Some answer)) }
+    ensures refused { IfErr result (IsRefusedBy (text_refusal (program_of input.now))) }
 {
     match assemble(alloc, input, base) {
         Ok(image) => Ok(image),
@@ -148,10 +152,10 @@ fn listing_of(alloc: Global, config: &Config, image: &Image) -> Result<ByteList,
 
 /// A run came to its end with this machine.
 fn ended(text: ByteList, machine: Machine) -> Output
-    requires { length machine.cores ≤ 8 }
+    requires { length machine.cores ≤ MOST_CORES }
     ensures text { result.text ≡ text }
     ensures end { result.end ≡ Some machine }
-    ensures answer { result.answer ≡ answer_of machine }
+    ensures answer { result.answer ≡ answer_of (machine_of machine) }
     ensures whole { IsWhole result.answer }
 {
     let answer = final_answer(&machine);
@@ -178,8 +182,8 @@ fn written(text: ByteList) -> Output
 
 /// What is answered of a machine whose whole text is written.
 fn final_answer(machine: &Machine) -> Answer
-    requires { length machine.now.cores ≤ 8 }
-    ensures value { result ≡ answer_of machine.now }
+    requires { length machine.now.cores ≤ MOST_CORES }
+    ensures value { result ≡ answer_of (machine_of machine.now) }
     ensures whole { IsWhole result }
 {
     let cores = machine.cores.as_slice();
@@ -198,7 +202,7 @@ fn final_answer(machine: &Machine) -> Answer
 
 /// How many cores are running.
 fn running(cores: &[TimedCore]) -> u32
-    requires { length cores.now ≤ 8 }
+    requires { length cores.now ≤ MOST_CORES }
     ensures { result ≡ running_of cores.now }
 {
     cores.iter().filter(|core| core.is_running()).count() as u32

@@ -1,25 +1,23 @@
-//! Running an image, and the text of the run.
-ghost use Rattle.std.specs.Prelude.{◌≡◌, ◌≤◌, ◌++◌, length, IfOk, OnOk};
+//! Running an image.
+ghost use Rattle.std.specs.Prelude.{◌≡◌, ◌+◌, ◌*◌, ◌^◌, ◌≤◌, length, IfOk};
+ghost use Rattle.slack_base.specs.declared.bounds.TheConstants.{MOST_CORES};
 ghost use Rattle.slack_base.specs.Images.{Fits};
 ghost use Rattle.slack_base.specs.Numbers.{numbers_of};
-ghost use Rattle.lockstep_model.specs.Proper.{IsProper};
-ghost use Rattle.lockstep_model.specs.Views.{state_of};
-ghost use Rattle.sim_words.specs.Contents.{contents_of};
+ghost use Rattle.lockstep_model.specs.Views.{machine_of};
+ghost use Rattle.stat_report.specs.Dump.{lines_in};
 ghost use Rattle.slacksim.specs.Ends.{IsLockstepEnd};
-ghost use Rattle.slacksim.specs.Texts.{notes_in, report_in, run_text, gen_line};
 
-use lockstep_model::{Machine, RvTarget, run, start};
-use sim_words::{Format, Order};
-use slack_base::{ByteList, Config, Image, NoteList, OutOfMemory};
-use stat_report::{Text, dump_text, notes_text, report_json, report_text};
+use lockstep_model::{Machine, RvTarget, start};
+use slack_base::{Config, Image, OutOfMemory};
 use std::alloc::Global;
+use target_law::run;
 
 /// The machine of an image at the checkpoint where its run stops.
 pub fn run_image(alloc: Global, config: &Config, image: &Image) -> Result<Machine, OutOfMemory>
     requires { Fits config.now.base config.now.memory image.now }
-    ensures end { IfOk result (IsLockstepEnd (numbers_of config.now) image.now) }
-    ensures cores { IfOk result (λ machine. length machine.cores ≤ 8) }
-    ensures proper { IfOk result (λ machine. IsProper (numbers_of config.now) (state_of machine)) }
+    ensures end { IfOk result (λ m. IsLockstepEnd (numbers_of config.now) image.now (machine_of m)) }
+    ensures cores { IfOk result (λ m. length m.cores ≤ MOST_CORES) }
+    ensures lines { IfOk result (λ m. config.now.base + 16 * lines_in m.chans ≤ 2 ^ 32) }
 {
     let interval = u64::from(config.interval);
     let limit = u64::from(config.limit);
@@ -27,74 +25,4 @@ pub fn run_image(alloc: Global, config: &Config, image: &Image) -> Result<Machin
     let mut machine = start(alloc, &target, image)?;
     run(alloc, &target, &mut machine, interval, limit)?;
     Ok(machine)
-}
-
-/// The text of a run that ended with this machine.
-#[tactic(auto, unfolding(crate::specs::Texts::run_text))]
-pub fn text_of_run(alloc: Global, order: &Order, machine: &Machine) -> Result<ByteList, OutOfMemory>
-    requires { IsProper (numbers_of order.now.config) (state_of machine.now) }
-    ensures { IfOk result (λ text. text ≡ run_text (contents_of order.now) machine.now) }
-{
-    let mut text = Text::new(alloc);
-    push_run(&mut text, alloc, order, machine)?;
-    Ok(text.into_list())
-}
-
-/// The text of a generated run that ended with this machine.
-pub fn text_of_gen(alloc: Global, order: &Order, machine: &Machine) -> Result<ByteList, OutOfMemory>
-    requires { IsProper (numbers_of order.now.config) (state_of machine.now) }
-    ensures { IfOk result (λ text. text ≡ gen_line order.now.seed ++ run_text (contents_of order.now) machine.now) }
-{
-    let mut text = Text::new(alloc);
-    push_gen_line(&mut text, order.seed)?;
-    push_run(&mut text, alloc, order, machine)?;
-    Ok(text.into_list())
-}
-
-/// Appends the line that names the seed of a generated run.
-#[tactic(auto, unfolding(crate::specs::Texts::gen_line))]
-fn push_gen_line(text: &mut Text, seed: u32) -> Result<(), OutOfMemory>
-    ensures { OnOk result (text.new ≡ text.old ++ gen_line seed) }
-{
-    text.push_field("gen ", u64::from(seed))?;
-    text.push_str(" words 1005\n")
-}
-
-/// Appends the text of a run.
-#[tactic(auto, unfolding(crate::specs::Texts::run_text))]
-fn push_run(
-    text: &mut Text,
-    alloc: Global,
-    order: &Order,
-    machine: &Machine,
-) -> Result<(), OutOfMemory>
-    requires { IsProper (numbers_of order.now.config) (state_of machine.now) }
-    ensures { OnOk result (text.new ≡ text.old ++ run_text (contents_of order.now) machine.now) }
-{
-    let report = report_in(alloc, order, machine)?;
-    text.push_bytes(report.as_slice())?;
-    push_notes(text, alloc, order.notes)
-}
-
-/// Appends the notes, where they are asked for. Cycle by cycle there are none.
-fn push_notes(text: &mut Text, alloc: Global, notes: bool) -> Result<(), OutOfMemory>
-    ensures { OnOk result (text.new ≡ text.old ++ notes_in notes) }
-{
-    if notes {
-        let none = notes_text(alloc, &NoteList::new(alloc), 0, 0)?;
-        text.push_bytes(none.as_slice())?;
-    }
-    Ok(())
-}
-
-/// The report in the format of the order.
-fn report_in(alloc: Global, order: &Order, machine: &Machine) -> Result<ByteList, OutOfMemory>
-    requires { IsProper (numbers_of order.now.config) (state_of machine.now) }
-    ensures { IfOk result (λ text. text ≡ report_in order.now.format (numbers_of order.now.config) machine.now) }
-{
-    match order.format {
-        Format::Text => report_text(alloc, machine),
-        Format::Json => report_json(alloc, machine),
-        Format::Dump => dump_text(alloc, &order.config, machine),
-    }
 }

@@ -4,8 +4,9 @@ ghost use Rattle.io_edge.specs.Counting.{Rose};
 ghost use Rattle.slack_base.specs.declared.faults.WordFault.{WordFault};
 ghost use Rattle.sim_words.specs.Reading.{words_of};
 ghost use Rattle.slacksim.specs.declared.answers.Answer.TheVariants as answers;
-ghost use Rattle.slacksim.specs.Answers.{HasOutput, IsWhole, answer_at, status_of};
-ghost use Rattle.slacksim.specs.Inputs.{IsRefusal, Tells, most_bytes, refusal_of};
+ghost use Rattle.slacksim.specs.Answers.{HasOutput, IsOrWants, IsWhole, answer_at, status_of};
+ghost use Rattle.slacksim.specs.Ended.{value_at};
+ghost use Rattle.slacksim.specs.Inputs.{GivesTo, IsRefusal, RefusesAll, TookTooMany, most_bytes, refusal_of};
 ghost use Rattle.slacksim.specs.Orders.{order_of};
 ghost use Rattle.slacksim.specs.Writing.{IsWritten, Wrote};
 
@@ -34,21 +35,22 @@ pub fn simulate<R: Threads + Sync, S: Source, W: Sink, G: Gate + Sync>(
     // in a mode that isn't there may be answered by want of memory too.
     ensures bad_words { (fault : WordFault) → result.answer ≡ Answer.BadWords fault → order_of words.now ≡ Err fault }
     ensures refuses_words { (fault : WordFault) → words_of words.now ≡ Err fault → result.answer ≡ Answer.BadWords fault }
-    ensures refuses_modes { (fault : WordFault) → order_of words.now ≡ Err fault → (result.answer ≡ Answer.BadWords fault) ⊎ (result.answer ≡ Answer.OutOfMemory) }
+    ensures refuses_modes { (fault : WordFault) → order_of words.now ≡ Err fault → IsOrWants (Answer.BadWords fault) result.answer }
     ensures untouched { IsErr (order_of words.now) → (source.new ≡ source.old) × (sink.new ≡ sink.old) }
 
     // Reading: a failure of the source, more bytes than an input may have, and an input with a fault. `gen` reads nothing.
     ensures read_fault { result.answer ≡ Answer.ReadFault → Rose (S.faults source.old) (S.faults source.new) }
-    ensures too_long { S.taken source.old < 2 ^ 63 → (result.answer ≡ Answer.TooLong (most_bytes + 1) ↔ S.taken source.new ≡ S.taken source.old + (most_bytes + 1)) }
+    ensures too_long { S.taken source.old < 2 ^ 63 → (result.answer ≡ Answer.TooLong (most_bytes + 1) ↔ TookTooMany (S.taken source.old) (S.taken source.new)) }
     ensures too_long_taken { (taken : ℕ) → result.answer ≡ Answer.TooLong taken → taken ≡ most_bytes + 1 }
     ensures no_more { S.taken source.old < 2 ^ 63 → S.taken source.new ≤ S.taken source.old + (most_bytes + 1) }
-    ensures bad_input { IsRefusal result.answer → IsOkAnd (order_of words.now) (λ order. IfSome (S.left source.old) (λ told. (refusal_of order told ≡ Some result.answer) × (S.left source.new ≡ Some []))) }
+    ensures bad_input { IsRefusal result.answer → IsOkAnd (order_of words.now) (λ order. RefusesAll order (S.left source.old) (S.left source.new) result.answer) }
     ensures generated { IsOkAnd (order_of words.now) (λ order. order.command ≡ Command.Gen) → source.new ≡ source.old }
 
     // The text that was written, or a front of it, is what the command makes of all that the source told; and so is the
     // machine at the end.
-    ensures output { HasOutput result.answer → IsOkAnd (order_of words.now) (λ order. Wrote order result.answer result.end (S.left source.old) (S.left source.new) (W.written sink.old) (W.written sink.new)) }
-    ensures answer { HasOutput result.answer → (result.answer ≡ Answer.WriteFault) ⊎ (result.answer ≡ answer_at result.end) }
+    ensures output { HasOutput result.answer → IsOkAnd (order_of words.now) (λ order.
+        Wrote order result.answer (value_at result.end) (S.left source.old) (S.left source.new) (W.written sink.old) (W.written sink.new)) }
+    ensures answer { HasOutput result.answer → (result.answer ≡ Answer.WriteFault) ⊎ (result.answer ≡ answer_at (value_at result.end)) }
     ensures write_fault { result.answer ≡ Answer.WriteFault → Rose (W.faults sink.old) (W.faults sink.new) }
     ensures nothing_written { ¬ HasOutput result.answer → (sink.new ≡ sink.old) × (result.end ≡ None) }
 
@@ -56,11 +58,14 @@ pub fn simulate<R: Threads + Sync, S: Source, W: Sink, G: Gate + Sync>(
     ensures status { result.status ≡ status_of result.answer }
     ensures notes { (result.notes ≡ []) × (result.drift_ticks ≡ 0) × (result.replay_ticks ≡ 0) }
 
-    // Where neither stream fails and the input isn't too long, the input alone decides, but for want of memory.
-    ensures accepts { IfOk (order_of words.now) (λ order. (input : List ℕ) → Tells order.command (S.left source.old) input → S.taken source.old < 2 ^ 63 → length input ≤ most_bytes → refusal_of order input ≡ None
-        → ¬ Rose (S.faults source.old) (S.faults source.new) → ¬ Rose (W.faults sink.old) (W.faults sink.new) → IsWhole result.answer ⊎ (result.answer ≡ Answer.OutOfMemory)) }
-    ensures refuses { IfOk (order_of words.now) (λ order. (input : List ℕ) (refusal : answers.the_data) → Tells order.command (S.left source.old) input → S.taken source.old < 2 ^ 63 → length input ≤ most_bytes → refusal_of order input ≡ Some refusal
-        → ¬ Rose (S.faults source.old) (S.faults source.new) → (result.answer ≡ refusal) ⊎ (result.answer ≡ Answer.OutOfMemory)) }
+    // Where the source gives the whole input and the sink doesn't fail, the input alone decides, but for want of memory.
+    ensures accepts { IfOk (order_of words.now) (λ order. (input : List ℕ)
+        → GivesTo order.command (S.left source.old) (S.taken source.old) (S.faults source.old) (S.faults source.new) input
+        → refusal_of order input ≡ None → ¬ Rose (W.faults sink.old) (W.faults sink.new)
+        → IsWhole result.answer ⊎ (result.answer ≡ Answer.OutOfMemory)) }
+    ensures refuses { IfOk (order_of words.now) (λ order. (input : List ℕ) (refusal : answers.the_data)
+        → GivesTo order.command (S.left source.old) (S.taken source.old) (S.faults source.old) (S.faults source.new) input
+        → refusal_of order input ≡ Some refusal → (result.answer ≡ refusal) ⊎ (result.answer ≡ Answer.OutOfMemory)) }
 {
     let order = match read_order(alloc, words) {
         Ok(order) => order,

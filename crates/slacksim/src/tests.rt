@@ -1,35 +1,23 @@
-//! Runs over streams in memory: what no clause says, with expected texts written down from the rules by hand.
+//! Calls over streams in memory: what no clause says, with expected texts written down from the rules by hand.
 ghost use Rattle.std.specs.Prelude.{◌<◌};
 
 use crate::answers::{Answer, Finish};
-use crate::faults::fault_text;
 use crate::simulation::simulate;
 use io_edge::{MemorySink, MemorySource, NeverHold};
-use slack_base::{Arg, ImageFault, Row, WordFault};
+use slack_base::{Arg, Row};
 use std::alloc::Global;
+use std::process::Abort;
 use std::test::Fail;
 use std::thread::Threads;
 
-mod assembled;
+mod bounds;
+mod calls;
+mod cycles;
+mod executables;
 mod failures;
-mod machines;
+mod faults;
 mod programs;
 mod sharing;
-mod texts;
-mod words;
-
-/// An SLK1 file of these words from address 0 on, where it is entered.
-pub fn flat(alloc: Global, words: &[u32]) -> Result<Vec<u8>, Fail> {
-    let mut code = Vec::new(alloc);
-    for word in words {
-        code.extend_from_slice(&word.to_le_bytes())?;
-    }
-    let size = u32::try_from(code.len())?;
-    let mut bytes = Vec::from_slice(alloc, b"SLK1\0\0\0\0\0\0\0\0")?;
-    bytes.extend_from_slice(&size.to_le_bytes())?;
-    bytes.extend_from_slice(code.as_slice())?;
-    Ok(bytes)
-}
 
 /// What a call answered, and what it wrote.
 #[derive(Drop)]
@@ -55,10 +43,10 @@ pub const WHOLE: Streams<'static> = Streams {
 };
 
 /// Runs a call over streams in memory.
-pub fn call<R: Threads + Sync + AllocGlobal>(
+pub fn call_over<R: Threads + Sync + AllocGlobal>(
     rt: &R,
     words: &[&str],
-    bytes: Vec<u8>,
+    input: &[u8],
     streams: Streams<'_>,
 ) -> Result<Outcome, Fail>
     requires { 0 < streams.step }
@@ -68,9 +56,10 @@ pub fn call<R: Threads + Sync + AllocGlobal>(
     for word in words {
         given.push(Arg::of(alloc, word)?)?;
     }
+    let bytes = Row::of(Vec::from_slice(alloc, input)?);
     let source_fails = Row::of(Vec::from_slice(alloc, streams.source_fails)?);
     let sink_fails = Row::of(Vec::from_slice(alloc, streams.sink_fails)?);
-    let mut source = MemorySource::make(Row::of(bytes), streams.step, source_fails);
+    let mut source = MemorySource::make(bytes, streams.step, source_fails);
     let mut sink = MemorySink::make(alloc, streams.room, streams.step, sink_fails)?;
     let finish = simulate(
         rt,
@@ -84,41 +73,34 @@ pub fn call<R: Threads + Sync + AllocGlobal>(
     Ok(Outcome { finish, text })
 }
 
-#[test]
-fn says_what_was_wrong(rt: HostRuntime) -> Result<(), Fail> {
-    let cases = [
-        (Answer::BadWords(WordFault::Command), "words: command"),
-        (
-            Answer::BadWords(WordFault::Steps { place: 2, at: 3 }),
-            "words: steps at 2 byte 3",
-        ),
-        (
-            Answer::BadImage(ImageFault::Short { have: 0, need: 4 }),
-            "image: short 0 of 4",
-        ),
-        (
-            Answer::BadImage(ImageFault::Overlap {
-                first: 0,
-                second: 1,
-            }),
-            "image: overlap 0 1",
-        ),
-        (Answer::TooLong { taken: 8388609 }, "input too long"),
-        (Answer::ReadFault, "read fault"),
-        (Answer::WriteFault, "write fault"),
-        (Answer::OutOfMemory, "out of memory"),
-        (
-            Answer::Limit {
-                cycle: 1,
-                running: 1,
-            },
-            "",
-        ),
-        (Answer::Done { all_zero: false }, ""),
-    ];
-    for (answer, expected) in cases {
-        let text = fault_text(rt.alloc(), &answer)?;
-        assert_eq!(rt; text.as_slice(), expected.as_bytes());
-    }
+/// Runs a call over streams that never fail.
+pub fn call<R: Threads + Sync + AllocGlobal>(
+    rt: &R,
+    words: &[&str],
+    input: &[u8],
+) -> Result<Outcome, Fail> {
+    call_over(rt, words, input, WHOLE)
+}
+
+/// A call: its words and its input, and the status, the answer and the whole text that it gives.
+#[derive(Clone, Copy)]
+pub struct Case {
+    pub words: &'static [&'static str],
+    pub input: &'static [u8],
+    pub status: u8,
+    pub answer: Answer,
+    pub text: &'static [u8],
+}
+
+/// Compares what a call over this input gives with what it should give.
+pub fn check<R: Threads + Sync + Abort + AllocGlobal>(
+    rt: &R,
+    case: &Case,
+    input: &[u8],
+) -> Result<(), Fail> {
+    let outcome = call(rt, case.words, input)?;
+    assert_eq!(rt; outcome.finish.answer, case.answer, "{:?}", case.words);
+    assert_eq!(rt; outcome.finish.status, case.status, "{:?}", case.words);
+    assert_eq!(rt; outcome.text.as_slice(), case.text, "{:?}", case.words);
     Ok(())
 }
