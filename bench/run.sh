@@ -1,7 +1,9 @@
 #!/usr/bin/env bash
 # Times the built program on loops that never end, up to a limit of 10,000,000 cycles: in registers, with
-# multiplications and divisions, on lines of each core's own, and on one line that all share. It prints simulated
-# core-cycles a second and the peak memory. It is a measurement and no test.
+# multiplications and divisions, on lines of each core's own, and on lines that cores share. It prints simulated
+# core-cycles a second and the peak memory. Then it times posts through a ring, in one thread and across two, and cores
+# that advance through a clock table, in one thread and in threads of their own. It is a measurement and no test. First
+# it sees that each image is what its text assembles to.
 set -eu
 top=$(cd "$(dirname "${BASH_SOURCE[0]}")/.." && pwd)
 
@@ -14,12 +16,46 @@ fastest() {
     done | sort -n | head -n 1
 }
 
-"$top/slacksim" run <"$top/examples/exit.slk1" >/dev/null
+for loop in loop products private shared; do
+    "$top/slacksim" asm <"$top/bench/$loop.s" | cmp - "$top/bench/$loop.slk1"
+done
 printf '%-10s %6s %12s %8s %15s %8s\n' loop cores core-cycles seconds core-cycles/s peak-KB
 for loop in loop products private shared; do
     for cores in 1 2 4 8; do
         read -r seconds memory <<<"$(fastest "$loop" "$cores")"
         awk -v l="$loop" -v c="$cores" -v s="$seconds" -v m="$memory" -v t="$cycles" \
             'BEGIN { n = c * t; if (s == 0) s = 0.01; printf "%-10s %6d %12d %8.2f %15.0f %8d\n", l, c, n, s, n / s, m }'
+    done
+done
+
+# Posts through a ring.
+rounds=100
+(cd "$top/crates/ring_bench" && rt run) >/dev/null
+printf '%-10s %12s %8s %10s %8s\n' threads posts seconds ns/post peak-KB
+for threads in one two; do
+    read -r seconds memory <<<"$(for _ in 1 2 3; do
+        { /usr/bin/time -f '%e %M' "$top/crates/ring_bench/out/ring_bench" "$threads" "$rounds" >/dev/null; } 2>&1 | tail -n 1
+    done | sort -n | head -n 1)"
+    awk -v w="$threads" -v n="$((rounds * 100000))" -v s="$seconds" -v m="$memory" \
+        'BEGIN { printf "%-10s %12d %8.2f %10.0f %8d\n", w, n, s, 1e9 * s / n, m }'
+done
+
+# Cores that advance through a clock table.
+(cd "$top/crates/gate_bench" && rt run -- apart 2 8 1000) >/dev/null
+printf '%-10s %6s %6s %12s %8s %10s\n' threads cores slack clocks seconds ns/clock
+for threads in alone apart; do
+    for cores in 2 4; do
+        for slack in 1 8 64 1000; do
+            case "$threads $slack" in
+                alone*) clocks=10000000 ;;
+                'apart 1') clocks=100000 ;;
+                *) clocks=1000000 ;;
+            esac
+            seconds=$(for _ in 1 2 3; do
+                { /usr/bin/time -f '%e' "$top/crates/gate_bench/out/gate_bench" "$threads" "$cores" "$slack" "$clocks" >/dev/null; } 2>&1 | tail -n 1
+            done | sort -n | head -n 1)
+            awk -v w="$threads" -v c="$cores" -v k="$slack" -v n="$clocks" -v s="$seconds" \
+                'BEGIN { printf "%-10s %6d %6d %12d %8.2f %10.0f\n", w, c, k, n, s, 1e9 * s / n }'
+        done
     done
 done
