@@ -34,6 +34,7 @@ pub fn drive<T: Target>(
     ensures script { IfOk result (λ r. IsScript (T.rules target.now) (state_of T.values state) len steps.now r.drift (state_of T.values r.end)) }
     // The history is that of a drift from the state to the end.
     ensures drift { IfOk result (λ r. IsDrift (T.rules target.now) (state_of T.values state) r.drift (state_of T.values r.end)) }
+    ensures proper { IfOk result (λ r. IsProper (T.rules target.now) (T.owns target.now) (state_of T.values r.end)) }
     ensures seen { IfOk result (λ r. r.seen ≡ scan_of (T.rules target.now) r.drift) }
     // Where no post was late at the start and nothing was seen, the end is lockstep's, and so are the asks, each once.
     ensures exact { IfOk result (λ r. IsExactIfQuiet (T.rules target.now) (state_of T.values state) r.drift r.seen (state_of T.values r.end)) }

@@ -20,7 +20,7 @@ const AHEAD: [Step; 4] = [
 ];
 
 /// Core 0 runs ahead by three cycles, and its second ask is served before the first of core 1; core 2 runs to the end,
-/// and takes the post of that ask there. Five steps can't be done: the last tick of core 2, and those of cores for which
+/// and takes the post of that ask there. Some steps can't be done: the last tick of core 2, and those of cores for which
 /// nothing waits, or that aren't there.
 const OUT_OF_ORDER: [Step; 17] = [
     Step::Tick { core: 0 },

@@ -1,7 +1,9 @@
 use Rattle.std.proofs.Common.{◌∙◌, sym, subst}
+use Rattle.target_law.specs.Proper.{IsProper}
 use Rattle.target_law.specs.Views.{state_of}
 use Rattle.drive_script.specs.Open.{IsOpen}
 use Rattle.drive_script.specs.Views.{world_of}
+use Rattle.drive_script.proofs.Closed.{closed_proper}
 use Rattle.drive_script.proofs.Driven.{script_of, drift_of, clash_each, few_lists, exact_of}
 use Rattle.drive_script.proofs.Opened.{open_opened}
 use Rattle.drive_script.proofs.drives.drive.Goals as goal
@@ -48,6 +50,14 @@ returns-clause-drift g c =
     (world_of values c.in_ok-world.world) (world_of values c.step_all.new.world) (world_of values c.finish.new.world) c.in_ok-end.drift (state_of values c.in_ok-end.end)
     c.as_slice.ensures c.in_ok-world.ensures.world c.in_ok-step_all.ensures.world c.in_ok-finish.ensures.world c.in_ok-end.ensures.drift c.in_ok-end.ensures.end
     (g.T.Target.owns t) (g.met.T.Target.laws t) c.requires.proper c.requires.top
+
+pub returns-clause-proper : goal.returns-clause-proper
+returns-clause-proper g c =
+    let t = c.args.target.now in
+    let rules = g.T.Target.rules t in
+    let owns = g.T.Target.owns t in
+    subst (IsProper rules owns) (sym c.in_ok-end.ensures.end)
+    (closed_proper rules owns (g.met.T.Target.laws t) (world_of g.T.Target.values c.finish.new.world) c.in_ok-finish.ensures.open)
 
 pub returns-clause-exact : goal.returns-clause-exact
 returns-clause-exact g c =
