@@ -1,3 +1,4 @@
+pub mod BoundedNotes
 pub mod Complete
 pub mod Noting
 pub mod Scan
