@@ -38,6 +38,10 @@ module _ {Inner Chan : Type 0} (rules : Rules Inner Chan) where
     pub drift : d ≡ history s.clock k world
     pub end : e ≡ closed world
 
+  -- the drifts of these steps
+  abbrev pub IsScriptOf : List Step → (k : ℕ) → StateValue Inner Chan → Drift → StateValue Inner Chan → Type 0
+  IsScriptOf steps k s d e = IsScript s k steps d e
+
   -- where no post was late at the start and nothing was seen, the drift ended as lockstep does, and served its asks
   abbrev pub IsExactIfQuiet : (s : StateValue Inner Chan) → Drift → (seen : List Violation) → (e : StateValue Inner Chan) → Type 0
   IsExactIfQuiet s d seen e = IsPunctual s → seen ≡ [] → IsLockstep rules s d e

@@ -6,9 +6,11 @@ pub mod ends;
 pub mod finishing;
 pub mod lanes;
 pub mod laws;
+pub mod runs;
 pub mod worlds;
 
 pub use drives::drive;
+pub use runs::script_run;
 
 #[cfg(test)]
 mod tests;
