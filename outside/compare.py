@@ -12,6 +12,7 @@ import struct
 import subprocess
 import sys
 
+from drifts import script
 from model import DEFAULTS, Machine
 
 PROGRAM = pathlib.Path(__file__).resolve().parent.parent / "slacksim"
@@ -99,17 +100,43 @@ def output(config, image, *words):
     return subprocess.run([PROGRAM, "run", *options, *words], input=image, capture_output=True).stdout
 
 
+def random_steps(rng, cores):
+    """Steps, as the command line has them and one by one. Some are of a core that isn't there."""
+    items = []
+    for _ in range(rng.choice([0, 5, 40, 200])):
+        kind = rng.choice("ttssp")
+        items.append((kind, rng.randrange(cores + 1), rng.choice([1, 1, 2, 3, 8, 40]) if kind == "t" else rng.choice([1, 1, 2])))
+    text = ",".join(f"{kind}{core}x{count}" if count > 1 else f"{kind}{core}" for kind, core, count in items)
+    return text, [(kind, core) for kind, core, count in items for _ in range(count)]
+
+
+def lockstep_differs(config, base, code, image):
+    machine = Machine(config, base, [(base, code)])
+    machine.run()
+    return output(config, image) != machine.report() or output(config, image, "--format", "dump") != machine.dump()
+
+
+def script_differs(rng, config, base, code, image):
+    config = {**config, "interval": rng.choice([1, 20, 100, 500])}
+    text, steps = random_steps(rng, config["cores"])
+    machine = Machine(config, base, [(base, code)])
+    notes = script(machine, steps)
+    words = ["--mode", "script", "--notes", "on", *(["--steps", text] if text else [])]
+    if output(config, image, *words) == machine.report() + notes.encode():
+        return False
+    print(" ".join(words))
+    return True
+
+
 def differs(rng):
     config = random_config(rng)
     base = config["base"]
     code = random_program(rng, base)
     image = b"SLK1" + struct.pack("<III", base, base, len(code)) + code
-    machine = Machine(config, base, [(base, code)])
-    machine.run()
-    same = output(config, image) == machine.report() and output(config, image, "--format", "dump") == machine.dump()
-    if not same:
+    found = lockstep_differs(config, base, code, image) or script_differs(rng, config, base, code, image)
+    if found:
         print(f"differs: {config} {code.hex()}")
-    return not same
+    return found
 
 
 def main():

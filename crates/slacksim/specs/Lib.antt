@@ -1,8 +1,7 @@
 pub mod Answers
-pub mod Ended
-pub mod Ends
 pub mod Inputs
 pub mod Orders
 pub mod Outputs
+pub mod RunValues
 pub mod Texts
 pub mod Writing

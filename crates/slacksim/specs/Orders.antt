@@ -1,16 +1,10 @@
 -- The orders that are carried out.
-use Rattle.std.specs.Prelude.{ℕ, Bool, true, false, List, Result, Ok, Err, if◌then◌else◌}
+use Rattle.std.specs.Prelude.{ℕ, List, Result, Ok, Err, if◌then◌else◌}
 use Rattle.slack_base.specs.declared.faults.WordFault.{WordFault}
 use Rattle.slack_base.specs.declared.faults.WordFault.TheVariants.{Value}
 use Rattle.sim_words.specs.OrderValues.{OrderValue}
 use Rattle.sim_words.specs.Reading.{words_of}
-use Rattle.sim_words.specs.declared.values.Mode.{Mode}
-use Rattle.sim_words.specs.declared.values.Mode.TheVariants.{Lockstep}
-
--- the modes that are there
-abbrev pub is_built : Mode → Bool
-is_built Lockstep = true
-is_built _ = false
+use Rattle.image_run.specs.Modes.{is_built}
 
 -- an order in a mode that isn't there yet is answered as a wrong value at place 0, which no value stands at
 abbrev pub in_built_mode : Result OrderValue WordFault → Result OrderValue WordFault

@@ -1,7 +1,7 @@
 -- What a command makes of its input.
-use Rattle.std.specs.Prelude.{◌≡◌, ℕ, List, ◌++◌, Option, Some, None, IsOkAnd}
+use Rattle.std.specs.Prelude.{◌≡◌, ℕ, List, ◌++◌, IsOkAnd}
 use Rattle.slack_base.specs.declared.images.Image.{Image}
-use Rattle.slack_base.specs.declared.images.Segment.{Segment}
+use Rattle.slack_base.specs.declared.notes.Interval.{Interval}
 use Rattle.image_load.specs.Flat.{flat_file}
 use Rattle.bus_model.specs.Channels.{ChannelValue}
 use Rattle.timed_core.specs.Cores.{HartValue}
@@ -13,44 +13,51 @@ use Rattle.sim_words.specs.declared.commands.Command.{Command}
 use Rattle.sim_words.specs.declared.commands.Command.TheVariants as command
 use Rattle.stat_report.specs.Listing.{IsListing}
 use Rattle.workload_gen.specs.Programs.{IsProgram}
-use Rattle.slacksim.specs.Ends.{IsLockstepEnd}
+use Rattle.image_run.specs.Ends.{IsRunEnd}
 use Rattle.slacksim.specs.Inputs.{image_told}
+use Rattle.slacksim.specs.RunValues.{RunValue, no_run, run_of}
 use Rattle.slacksim.specs.Texts.{run_text, gen_line}
 
+-- the image was run in the order's mode, and left this machine and these notes
+abbrev pub IsRun : OrderValue → Image → List Interval → StateValue HartValue ChannelValue → Type 0
+IsRun order image notes machine = IsRunEnd order.numbers order.mode order.steps image notes machine
+
 -- `run`: the image that the input gives was run, and the text is the run's
-pub record IsRunOutput (order : OrderValue) (input : List ℕ) (end : Option (StateValue HartValue ChannelValue)) (text : List ℕ) : Type 0 where
+pub record IsRunOutput (order : OrderValue) (input : List ℕ) (run : RunValue) (text : List ℕ) : Type 0 where
   pub machine : StateValue HartValue ChannelValue
-  pub is_end : end ≡ Some machine
-  pub ran : IsOkAnd (image_told order.numbers input) (λ image. IsLockstepEnd order.numbers image machine)
-  pub whole : text ≡ run_text order machine
+  pub notes : List Interval
+  pub ran : IsOkAnd (image_told order.numbers input) (λ image. IsRun order image notes machine)
+  pub hands_back : run ≡ run_of order.numbers.cores notes machine
+  pub whole : text ≡ run_text order machine run
 
 -- `gen`: the program of the seed was run, and the text is the run's behind a line that names the seed
-pub record IsGenOutput (order : OrderValue) (end : Option (StateValue HartValue ChannelValue)) (text : List ℕ) : Type 0 where
+pub record IsGenOutput (order : OrderValue) (run : RunValue) (text : List ℕ) : Type 0 where
   pub machine : StateValue HartValue ChannelValue
-  pub is_end : end ≡ Some machine
+  pub notes : List Interval
   pub image : Image
   pub program : IsProgram order.seed order.numbers.base image
-  pub ran : IsLockstepEnd order.numbers image machine
-  pub whole : text ≡ gen_line order.seed ++ run_text order machine
+  pub ran : IsRun order image notes machine
+  pub hands_back : run ≡ run_of order.numbers.cores notes machine
+  pub whole : text ≡ gen_line order.seed ++ run_text order machine run
 
 -- `asm`: the text is the flat file of the program that the input says
-pub record IsAsmOutput (order : OrderValue) (input : List ℕ) (end : Option (StateValue HartValue ChannelValue)) (text : List ℕ) : Type 0 where
+pub record IsAsmOutput (order : OrderValue) (input : List ℕ) (run : RunValue) (text : List ℕ) : Type 0 where
   pub bytes : List ℕ
-  pub no_end : end ≡ None
   pub assembly : IsAssembly input order.numbers.base (one_piece order.numbers.base order.numbers.base bytes)
+  pub hands_back : run ≡ no_run
   pub whole : text ≡ flat_file order.numbers.base order.numbers.base bytes
 
 -- `list`: the text is the listing of the image that the input gives
-pub record IsListOutput (order : OrderValue) (input : List ℕ) (end : Option (StateValue HartValue ChannelValue)) (text : List ℕ) : Type 0 where
-  pub no_end : end ≡ None
+pub record IsListOutput (order : OrderValue) (input : List ℕ) (run : RunValue) (text : List ℕ) : Type 0 where
+  pub hands_back : run ≡ no_run
   pub listed : IsOkAnd (image_told order.numbers input) (λ image. IsListing image text)
 
--- the text that a command writes, and the machine that it hands back
-abbrev pub IsOutputBy : Command → OrderValue → (input : List ℕ) → (end : Option (StateValue HartValue ChannelValue)) → (text : List ℕ) → Type 0
-IsOutputBy command.Run order input end text = IsRunOutput order input end text
-IsOutputBy command.Gen order input end text = IsGenOutput order end text
-IsOutputBy command.Asm order input end text = IsAsmOutput order input end text
-IsOutputBy command.List order input end text = IsListOutput order input end text
+-- what a command hands back, and the text that it writes
+abbrev pub IsOutputBy : Command → OrderValue → (input : List ℕ) → RunValue → (text : List ℕ) → Type 0
+IsOutputBy command.Run order input run text = IsRunOutput order input run text
+IsOutputBy command.Gen order input run text = IsGenOutput order run text
+IsOutputBy command.Asm order input run text = IsAsmOutput order input run text
+IsOutputBy command.List order input run text = IsListOutput order input run text
 
-abbrev pub IsOutput : OrderValue → (input : List ℕ) → (end : Option (StateValue HartValue ChannelValue)) → (text : List ℕ) → Type 0
-IsOutput order input end text = IsOutputBy order.command order input end text
+abbrev pub IsOutput : OrderValue → (input : List ℕ) → RunValue → (text : List ℕ) → Type 0
+IsOutput order input run text = IsOutputBy order.command order input run text

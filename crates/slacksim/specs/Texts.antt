@@ -12,6 +12,7 @@ use Rattle.stat_report.specs.Json.{json_text}
 use Rattle.plain_text.specs.Pieces.{field}
 use Rattle.stat_report.specs.Notes.{notes_of}
 use Rattle.stat_report.specs.Report.{report_of}
+use Rattle.slacksim.specs.RunValues.{RunValue}
 
 -- the report in a format
 abbrev pub report_in : Format → RawConfig → StateValue HartValue ChannelValue → List ℕ
@@ -19,14 +20,14 @@ report_in Text config m = report_of m
 report_in Json config m = json_text m
 report_in Dump config m = dump_of config.base m
 
--- the notes, where they are asked for: cycle by cycle there are none, and no tick is counted
-abbrev pub notes_in : Bool → List ℕ
-notes_in true = notes_of [] 0 0
-notes_in false = []
+-- the notes, where they are asked for
+abbrev pub notes_in : Bool → RunValue → List ℕ
+notes_in true run = notes_of run.notes run.drift_ticks run.replay_ticks
+notes_in false run = []
 
 -- the text of a run: its report, and the notes
-unfoldable pub run_text : OrderValue → StateValue HartValue ChannelValue → List ℕ
-run_text order m = report_in order.format order.numbers m ++ notes_in order.notes
+unfoldable pub run_text : OrderValue → StateValue HartValue ChannelValue → RunValue → List ℕ
+run_text order m run = report_in order.format order.numbers m ++ notes_in order.notes run
 
 -- the first line of a generated run
 unfoldable pub gen_line : ℕ → List ℕ

@@ -2,12 +2,10 @@
 use Rattle.std.specs.Prelude.{◌≡◌, ℕ, List, Option}
 use Rattle.io_edge.specs.Streams.{with_after}
 use Rattle.io_edge.specs.Whole.{AppendsFront}
-use Rattle.bus_model.specs.Channels.{ChannelValue}
-use Rattle.timed_core.specs.Cores.{HartValue}
-use Rattle.target_law.specs.Cycles.{StateValue}
 use Rattle.sim_words.specs.OrderValues.{OrderValue}
 use Rattle.slacksim.specs.Inputs.{IsInput}
 use Rattle.slacksim.specs.Outputs.{IsOutput}
+use Rattle.slacksim.specs.RunValues.{RunValue}
 use Rattle.slacksim.specs.declared.answers.Answer.{Answer}
 use Rattle.slacksim.specs.declared.answers.Answer.TheVariants.{WriteFault, Limit, Done}
 
@@ -18,10 +16,10 @@ IsWritten (Limit cycle running) written written_after text = written_after ≡ w
 IsWritten WriteFault written written_after text = AppendsFront written written_after text
 IsWritten _ written written_after text = ⊥
 
--- a call read its input, and wrote the text that its command makes of it
-pub record Wrote (order : OrderValue) (answer : Answer) (end : Option (StateValue HartValue ChannelValue)) (left left_after written written_after : Option (List ℕ)) : Type 0 where
+-- a call read its input, and handed back and wrote what its command makes of it
+pub record Wrote (order : OrderValue) (answer : Answer) (run : RunValue) (left left_after written written_after : Option (List ℕ)) : Type 0 where
   pub input : List ℕ
   pub read : IsInput order.command left left_after input
   pub text : List ℕ
-  pub output : IsOutput order input end text
+  pub output : IsOutput order input run text
   pub is_written : IsWritten answer written written_after text

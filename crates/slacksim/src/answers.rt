@@ -2,8 +2,10 @@
 ghost use Rattle.std.specs.Prelude.{◌≡◌};
 ghost use Rattle.slacksim.specs.Answers.{status_of};
 
+use image_run::Ran;
 use lockstep_model::Machine;
 use slack_base::{AsmFault, ImageFault, NoteList, WordFault};
+use std::alloc::Global;
 
 /// How a call ended.
 #[derive(Clone, Copy, Debug, PartialEq, Eq)]
@@ -56,4 +58,37 @@ pub struct Finish {
     pub notes: NoteList,
     pub drift_ticks: u64,
     pub replay_ticks: u64,
+}
+
+impl Finish {
+    ghost use Rattle.std.specs.Prelude.{◌≡◌};
+    ghost use Rattle.slacksim.specs.Answers.{status_of};
+    ghost use Rattle.slacksim.specs.RunValues.{run_in, run_value};
+
+    /// What a call hands back that answered so, with its run if there was one.
+    pub fn of(alloc: Global, answer: Answer, run: Option<Ran>) -> Finish
+        ensures answer { result.answer ≡ answer }
+        ensures status { result.status ≡ status_of answer }
+        ensures run { run_in result ≡ run_value run }
+    {
+        let status = answer.status();
+        match run {
+            Some(ran) => Finish {
+                status,
+                answer,
+                end: Some(ran.machine),
+                notes: ran.notes,
+                drift_ticks: ran.drift_ticks,
+                replay_ticks: ran.replay_ticks,
+            },
+            None => Finish {
+                status,
+                answer,
+                end: None,
+                notes: NoteList::new(alloc),
+                drift_ticks: 0,
+                replay_ticks: 0,
+            },
+        }
+    }
 }

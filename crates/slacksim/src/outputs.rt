@@ -1,5 +1,5 @@
 //! What a command makes of its input.
-ghost use Rattle.std.specs.Prelude.{◌≡◌, ◌<◌, ◌≤◌, ◌^◌, ◌⊎◌, Ok, Some, None, length, true, IfOk, IfErr};
+ghost use Rattle.std.specs.Prelude.{◌≡◌, ◌<◌, ◌≤◌, ◌^◌, ◌⊎◌, Ok, Some, None, length, true, IfOk, IfErr, IsTrue};
 ghost use Rattle.slack_base.specs.declared.bounds.TheConstants.{GENERATED_MEMORY, MOST_CORES};
 ghost use Rattle.slack_base.specs.Images.{Fits};
 ghost use Rattle.slack_base.specs.Numbers.{numbers_of};
@@ -9,13 +9,16 @@ ghost use Rattle.stat_report.specs.Listing.{IsListing};
 ghost use Rattle.lockstep_model.specs.Views.{machine_of};
 ghost use Rattle.slacksim.specs.Answers.{IsRefusedBy, IsWhole, answer_at, answer_of, all_zero_of, is_zero_exit, running_of};
 ghost use Rattle.slacksim.specs.Inputs.{image_told, image_refusal, text_refusal, refusal_by};
-ghost use Rattle.slacksim.specs.Ended.{value_at};
+ghost use Rattle.image_run.specs.Modes.{is_built};
+ghost use Rattle.image_run.specs.Ticks.{drift_ticks_of, replay_ticks_of};
+ghost use Rattle.slacksim.specs.RunValues.{RunValue, no_run, run_value, run_of};
 ghost use Rattle.slacksim.specs.Outputs.{IsOutputBy, IsRunOutput, IsGenOutput, IsAsmOutput, IsListOutput};
 
 use crate::answers::Answer;
-use crate::runs::run_image;
+use crate::runs::run_by;
 use crate::texts::{text_of_gen, text_of_run};
 use image_load::{ImageError, flat_bytes, read_image};
+use image_run::Ran;
 use lockstep_model::Machine;
 use rv_asm::{AsmError, assemble};
 use sim_words::{Command, Order};
@@ -25,12 +28,11 @@ use std::alloc::Global;
 use timed_core::TimedCore;
 use workload_gen::program;
 
-/// The text that a command writes, the machine at the end of its run if it runs one, and what is answered once the
-/// text is written.
+/// The text that a command writes, the run that it made if it made one, and what is answered once the text is written.
 #[derive(Drop)]
 pub struct Output {
     pub text: ByteList,
-    pub end: Option<Machine>,
+    pub run: Option<Ran>,
     pub answer: Answer,
 }
 
@@ -46,10 +48,11 @@ impl From<OutOfMemory> for Answer {
 
 /// What the command of an order makes of its input, or the answer for an input that has a fault.
 pub fn output_of(alloc: Global, order: &Order, input: &[u8]) -> Result<Output, Answer>
+    requires mode { IsTrue (is_built order.now.mode) }
     requires short { length input.now < 2 ^ 32 }
     requires room { order.now.command ≡ Command.Gen → GENERATED_MEMORY ≤ order.now.config.memory }
-    ensures output { IfOk result (λ out. IsOutputBy order.now.command (order_value order.now) input.now (value_at out.end) out.text) }
-    ensures answer { IfOk result (λ out. out.answer ≡ answer_at (value_at out.end)) }
+    ensures output { IfOk result (λ out. IsOutputBy order.now.command (order_value order.now) input.now (run_value out.run) out.text) }
+    ensures answer { IfOk result (λ out. out.answer ≡ answer_at (run_value out.run).end) }
     ensures whole { IfOk result (λ out. IsWhole out.answer) }
     ensures accepted { IfOk result (λ _. refusal_by order.now.command (numbers_of order.now.config) input.now ≡ None) }
     ensures refused { IfErr result (IsRefusedBy (refusal_by order.now.command (numbers_of order.now.config) input.now)) }
@@ -64,36 +67,38 @@ pub fn output_of(alloc: Global, order: &Order, input: &[u8]) -> Result<Output, A
 
 /// `run`: the image that the input gives is run.
 fn run_output(alloc: Global, order: &Order, input: &[u8]) -> Result<Output, Answer>
-    ensures output { IfOk result (λ out. IsRunOutput (order_value order.now) input.now (value_at out.end) out.text) }
-    ensures answer { IfOk result (λ out. out.answer ≡ answer_at (value_at out.end)) }
+    requires { IsTrue (is_built order.now.mode) }
+    ensures output { IfOk result (λ out. IsRunOutput (order_value order.now) input.now (run_value out.run) out.text) }
+    ensures answer { IfOk result (λ out. out.answer ≡ answer_at (run_value out.run).end) }
     ensures whole { IfOk result (λ out. IsWhole out.answer) }
     ensures accepted { IfOk result (λ _. image_refusal (image_told (numbers_of order.now.config) input.now) ≡ None) }
     ensures refused { IfErr result (IsRefusedBy (image_refusal (image_told (numbers_of order.now.config) input.now))) }
 {
     let image = image_in(alloc, &order.config, input)?;
-    let machine = run_image(alloc, &order.config, &image)?;
-    let text = text_of_run(alloc, order, &machine)?;
-    Ok(ended(text, machine))
+    let ran = run_by(alloc, order, &image)?;
+    let text = text_of_run(alloc, order, &ran)?;
+    Ok(ended(text, ran))
 }
 
 /// `gen`: the program of the seed is run.
 fn gen_output(alloc: Global, order: &Order) -> Result<Output, OutOfMemory>
-    requires { GENERATED_MEMORY ≤ order.now.config.memory }
-    ensures output { IfOk result (λ out. IsGenOutput (order_value order.now) (value_at out.end) out.text) }
-    ensures answer { IfOk result (λ out. out.answer ≡ answer_at (value_at out.end)) }
+    requires mode { IsTrue (is_built order.now.mode) }
+    requires room { GENERATED_MEMORY ≤ order.now.config.memory }
+    ensures output { IfOk result (λ out. IsGenOutput (order_value order.now) (run_value out.run) out.text) }
+    ensures answer { IfOk result (λ out. out.answer ≡ answer_at (run_value out.run).end) }
     ensures whole { IfOk result (λ out. IsWhole out.answer) }
 {
     let image = program(alloc, order.seed, &order.config)?;
-    let machine = run_image(alloc, &order.config, &image)?;
-    let text = text_of_gen(alloc, order, &machine)?;
-    Ok(ended(text, machine))
+    let ran = run_by(alloc, order, &image)?;
+    let text = text_of_gen(alloc, order, &ran)?;
+    Ok(ended(text, ran))
 }
 
 /// `asm`: the flat file of the program that the input says.
 fn asm_output(alloc: Global, order: &Order, input: &[u8]) -> Result<Output, Answer>
     requires { length input.now < 2 ^ 32 }
-    ensures output { IfOk result (λ out. IsAsmOutput (order_value order.now) input.now (value_at out.end) out.text) }
-    ensures answer { IfOk result (λ out. out.answer ≡ answer_at (value_at out.end)) }
+    ensures output { IfOk result (λ out. IsAsmOutput (order_value order.now) input.now (run_value out.run) out.text) }
+    ensures answer { IfOk result (λ out. out.answer ≡ answer_at (run_value out.run).end) }
     ensures whole { IfOk result (λ out. IsWhole out.answer) }
     ensures accepted { IfOk result (λ _. text_refusal (program_of input.now) ≡ None) }
     ensures refused { IfErr result (IsRefusedBy (text_refusal (program_of input.now))) }
@@ -105,8 +110,8 @@ fn asm_output(alloc: Global, order: &Order, input: &[u8]) -> Result<Output, Answ
 
 /// `list`: the listing of the image that the input gives.
 fn list_output(alloc: Global, order: &Order, input: &[u8]) -> Result<Output, Answer>
-    ensures output { IfOk result (λ out. IsListOutput (order_value order.now) input.now (value_at out.end) out.text) }
-    ensures answer { IfOk result (λ out. out.answer ≡ answer_at (value_at out.end)) }
+    ensures output { IfOk result (λ out. IsListOutput (order_value order.now) input.now (run_value out.run) out.text) }
+    ensures answer { IfOk result (λ out. out.answer ≡ answer_at (run_value out.run).end) }
     ensures whole { IfOk result (λ out. IsWhole out.answer) }
     ensures accepted { IfOk result (λ _. image_refusal (image_told (numbers_of order.now.config) input.now) ≡ None) }
     ensures refused { IfErr result (IsRefusedBy (image_refusal (image_told (numbers_of order.now.config) input.now))) }
@@ -150,18 +155,18 @@ fn listing_of(alloc: Global, config: &Config, image: &Image) -> Result<ByteList,
     listing(alloc, image)
 }
 
-/// A run came to its end with this machine.
-fn ended(text: ByteList, machine: Machine) -> Output
-    requires { length machine.cores ≤ MOST_CORES }
+/// A run came to its end.
+fn ended(text: ByteList, ran: Ran) -> Output
+    requires { length ran.machine.cores ≤ MOST_CORES }
     ensures text { result.text ≡ text }
-    ensures end { result.end ≡ Some machine }
-    ensures answer { result.answer ≡ answer_of (machine_of machine) }
+    ensures run { result.run ≡ Some ran }
+    ensures answer { result.answer ≡ answer_of (machine_of ran.machine) }
     ensures whole { IsWhole result.answer }
 {
-    let answer = final_answer(&machine);
+    let answer = final_answer(&ran.machine);
     Output {
         text,
-        end: Some(machine),
+        run: Some(ran),
         answer,
     }
 }
@@ -169,13 +174,13 @@ fn ended(text: ByteList, machine: Machine) -> Output
 /// A text that belongs to no run.
 fn written(text: ByteList) -> Output
     ensures text { result.text ≡ text }
-    ensures end { result.end ≡ None }
+    ensures run { result.run ≡ None }
     ensures answer { result.answer ≡ Answer.Done true }
     ensures whole { IsWhole result.answer }
 {
     Output {
         text,
-        end: None,
+        run: None,
         answer: Answer::Done { all_zero: true },
     }
 }

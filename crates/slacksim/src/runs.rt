@@ -1,28 +1,29 @@
-//! Running an image.
-ghost use Rattle.std.specs.Prelude.{◌≡◌, ◌+◌, ◌*◌, ◌^◌, ◌≤◌, length, IfOk};
+//! Running the image of an order.
+ghost use Rattle.std.specs.Prelude.{◌≡◌, ◌+◌, ◌*◌, ◌^◌, ◌≤◌, length, IfOk, IsTrue};
 ghost use Rattle.slack_base.specs.declared.bounds.TheConstants.{MOST_CORES};
 ghost use Rattle.slack_base.specs.Images.{Fits};
-ghost use Rattle.slack_base.specs.Numbers.{numbers_of};
 ghost use Rattle.lockstep_model.specs.Views.{machine_of};
 ghost use Rattle.stat_report.specs.Dump.{lines_in};
-ghost use Rattle.slacksim.specs.Ends.{IsLockstepEnd};
+ghost use Rattle.image_run.specs.Modes.{is_built};
+ghost use Rattle.image_run.specs.Ticks.{drift_ticks_of, replay_ticks_of};
+ghost use Rattle.sim_words.specs.OrderValues.{order_value};
+ghost use Rattle.slacksim.specs.Outputs.{IsRun};
 
-use lockstep_model::{Machine, RvTarget, start};
-use slack_base::{Config, Image, OutOfMemory};
+use image_run::{Ran, run_image};
+use sim_words::Order;
+use slack_base::{Image, OutOfMemory};
 use std::alloc::Global;
-use target_law::run;
 
-/// The machine of an image at the checkpoint where its run stops.
-pub fn run_image(alloc: Global, config: &Config, image: &Image) -> Result<Machine, OutOfMemory>
-    requires { Fits config.now.base config.now.memory image.now }
-    ensures end { IfOk result (λ m. IsLockstepEnd (numbers_of config.now) image.now (machine_of m)) }
-    ensures cores { IfOk result (λ m. length m.cores ≤ MOST_CORES) }
-    ensures lines { IfOk result (λ m. config.now.base + 16 * lines_in m.chans ≤ 2 ^ 32) }
+/// The run of an image by an order, to the checkpoint where it stops.
+pub fn run_by(alloc: Global, order: &Order, image: &Image) -> Result<Ran, OutOfMemory>
+    requires image { Fits order.now.config.base order.now.config.memory image.now }
+    requires mode { IsTrue (is_built order.now.mode) }
+    ensures run { IfOk result (λ r. IsRun (order_value order.now) image.now r.notes (machine_of r.machine)) }
+    ensures drift_ticks { IfOk result (λ r. r.drift_ticks ≡ drift_ticks_of order.now.config.cores r.notes) }
+    ensures replay_ticks { IfOk result (λ r. r.replay_ticks ≡ replay_ticks_of order.now.config.cores r.notes) }
+    ensures cores { IfOk result (λ r. length r.machine.cores ≤ MOST_CORES) }
+    ensures lines { IfOk result (λ r. order.now.config.base + 16 * lines_in r.machine.chans ≤ 2 ^ 32) }
 {
-    let interval = u64::from(config.interval);
-    let limit = u64::from(config.limit);
-    let target = RvTarget::make(alloc, *config, image)?;
-    let mut machine = start(alloc, &target, image)?;
-    run(alloc, &target, &mut machine, interval, limit)?;
-    Ok(machine)
+    let ran = run_image(alloc, &order.config, order.mode, &order.steps, image)?;
+    Ok(ran)
 }

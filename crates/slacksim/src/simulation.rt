@@ -5,9 +5,9 @@ ghost use Rattle.slack_base.specs.declared.faults.WordFault.{WordFault};
 ghost use Rattle.sim_words.specs.Reading.{words_of};
 ghost use Rattle.slacksim.specs.declared.answers.Answer.TheVariants as answers;
 ghost use Rattle.slacksim.specs.Answers.{HasOutput, IsOrWants, IsWhole, answer_at, status_of};
-ghost use Rattle.slacksim.specs.Ended.{value_at};
 ghost use Rattle.slacksim.specs.Inputs.{GivesTo, IsRefusal, RefusesAll, TookTooMany, most_bytes, refusal_of};
 ghost use Rattle.slacksim.specs.Orders.{order_of};
+ghost use Rattle.slacksim.specs.RunValues.{no_run, run_in, run_value};
 ghost use Rattle.slacksim.specs.Writing.{IsWritten, Wrote};
 
 use crate::answers::{Answer, Finish};
@@ -16,13 +16,14 @@ use crate::orders::read_order;
 use crate::outputs::{Output, output_of};
 use io_edge::{Gate, Sink, Source, write_all};
 use sim_words::{Command, WordError};
-use slack_base::{Arg, NoteList};
+use slack_base::Arg;
 use std::alloc::Global;
 use std::thread::Threads;
 
 /// Carries out the command that the words give over the bytes of the source, and writes its text to the sink.
 ///
-/// `run` runs an image and `gen` a generated program, cycle by cycle; `asm` assembles a text, and `list` lists an image.
+/// `run` runs an image and `gen` a generated program, cycle by cycle or in a given interleaving; `asm` assembles a text,
+/// and `list` lists an image.
 pub fn simulate<R: Threads + Sync, S: Source, W: Sink, G: Gate + Sync>(
     _rt: &R,
     alloc: Global,
@@ -46,17 +47,16 @@ pub fn simulate<R: Threads + Sync, S: Source, W: Sink, G: Gate + Sync>(
     ensures bad_input { IsRefusal result.answer → IsOkAnd (order_of words.now) (λ order. RefusesAll order (S.left source.old) (S.left source.new) result.answer) }
     ensures generated { IsOkAnd (order_of words.now) (λ order. order.command ≡ Command.Gen) → source.new ≡ source.old }
 
-    // The text that was written, or a front of it, is what the command makes of all that the source told; and so is the
-    // machine at the end.
+    // The text that was written, or a front of it, is what the command makes of all that the source told; and so are the
+    // machine at the end, the notes and the counts of ticks that are handed back.
     ensures output { HasOutput result.answer → IsOkAnd (order_of words.now) (λ order.
-        Wrote order result.answer (value_at result.end) (S.left source.old) (S.left source.new) (W.written sink.old) (W.written sink.new)) }
-    ensures answer { HasOutput result.answer → (result.answer ≡ Answer.WriteFault) ⊎ (result.answer ≡ answer_at (value_at result.end)) }
+        Wrote order result.answer (run_in result) (S.left source.old) (S.left source.new) (W.written sink.old) (W.written sink.new)) }
+    ensures answer { HasOutput result.answer → (result.answer ≡ Answer.WriteFault) ⊎ (result.answer ≡ answer_at (run_in result).end) }
     ensures write_fault { result.answer ≡ Answer.WriteFault → Rose (W.faults sink.old) (W.faults sink.new) }
-    ensures nothing_written { ¬ HasOutput result.answer → (sink.new ≡ sink.old) × (result.end ≡ None) }
+    ensures nothing_written { ¬ HasOutput result.answer → (sink.new ≡ sink.old) × (run_in result ≡ no_run) }
 
-    // The status goes with the answer, and cycle by cycle there is nothing to note.
+    // The status goes with the answer.
     ensures status { result.status ≡ status_of result.answer }
-    ensures notes { (result.notes ≡ []) × (result.drift_ticks ≡ 0) × (result.replay_ticks ≡ 0) }
 
     // Where the source gives the whole input and the sink doesn't fail, the input alone decides, but for want of memory.
     ensures accepts { IfOk (order_of words.now) (λ order. (input : List ℕ)
@@ -86,17 +86,9 @@ pub fn simulate<R: Threads + Sync, S: Source, W: Sink, G: Gate + Sync>(
 fn refused(alloc: Global, answer: Answer) -> Finish
     ensures answer { result.answer ≡ answer }
     ensures status { result.status ≡ status_of answer }
-    ensures end { result.end ≡ None }
-    ensures notes { (result.notes ≡ []) × (result.drift_ticks ≡ 0) × (result.replay_ticks ≡ 0) }
+    ensures run { run_in result ≡ no_run }
 {
-    Finish {
-        status: answer.status(),
-        answer,
-        end: None,
-        notes: NoteList::new(alloc),
-        drift_ticks: 0,
-        replay_ticks: 0,
-    }
+    Finish::of(alloc, answer, None)
 }
 
 /// Writes the text of a command, which was made whole before.
@@ -104,21 +96,13 @@ fn write_output<W: Sink>(alloc: Global, output: Output, sink: &mut W) -> Finish
     requires { IsWhole output.answer }
     ensures written { IsWritten result.answer (W.written sink.old) (W.written sink.new) output.text }
     ensures answer { (result.answer ≡ Answer.WriteFault) ⊎ (result.answer ≡ output.answer) }
-    ensures end { result.end ≡ output.end }
+    ensures run { run_in result ≡ run_value output.run }
     ensures write_fault { result.answer ≡ Answer.WriteFault → Rose (W.faults sink.old) (W.faults sink.new) }
     ensures status { result.status ≡ status_of result.answer }
-    ensures notes { (result.notes ≡ []) × (result.drift_ticks ≡ 0) × (result.replay_ticks ≡ 0) }
 {
     let answer = match write_all(sink, output.text.as_slice()) {
         Ok(()) => output.answer,
         Err(_) => Answer::WriteFault,
     };
-    Finish {
-        status: answer.status(),
-        answer,
-        end: output.end,
-        notes: NoteList::new(alloc),
-        drift_ticks: 0,
-        replay_ticks: 0,
-    }
+    Finish::of(alloc, answer, output.run)
 }

@@ -17,6 +17,7 @@ mod executables;
 mod failures;
 mod faults;
 mod programs;
+mod scripts;
 mod sharing;
 
 /// What a call answered, and what it wrote.

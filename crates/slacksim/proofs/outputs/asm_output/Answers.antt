@@ -1,7 +1,7 @@
 use Rattle.std.proofs.Common.{◌≡◌, ◌∙◌, ap, refl, length}
 use Rattle.slack_base.specs.declared.images.Image.{Image}
 use Rattle.image_load.specs.Flat.{flat_file}
-use Rattle.slacksim.specs.Ended.{value_at}
+use Rattle.slacksim.specs.RunValues.{run_value}
 use Rattle.slacksim.proofs.outputs.asm_output.Goals as goal
 
 pub returns-clause-output : goal.returns-clause-output
@@ -10,7 +10,7 @@ returns-clause-output c =
     let base = c.args.order.now.config.base in
     record {
       bytes = a.bytes;
-      no_end = ap value_at c.written.ensures.end;
+      hands_back = ap run_value c.written.ensures.run;
       assembly = record { codes = a.codes; bytes = a.bytes; program = a.program; words = a.words; whole = refl };
       whole =
           c.written.ensures.text

@@ -1,0 +1,41 @@
+-- The machine and the notes at the end of a run.
+use Rattle.std.specs.Prelude.{◌≡◌, ℕ, List, [], IsTrue}
+use Rattle.slack_base.specs.declared.images.Image.{Image}
+use Rattle.slack_base.specs.declared.configs.RawConfig.{RawConfig}
+use Rattle.slack_base.specs.declared.notes.Interval.{Interval}
+use Rattle.slack_base.specs.declared.steps.Step.{Step}
+use Rattle.bus_model.specs.Channels.{ChannelValue}
+use Rattle.timed_core.specs.Code.{code_of}
+use Rattle.timed_core.specs.Cores.{HartValue}
+use Rattle.target_law.specs.Cycles.{StateValue, lockstep, IsLockstepOf}
+use Rattle.target_law.specs.Rules.{Rules}
+use Rattle.target_law.specs.Runs.{Ends}
+use Rattle.target_law.specs.Stops.{Stops}
+use Rattle.lockstep_model.specs.Rules.{rules_of}
+use Rattle.lockstep_model.specs.Start.{start_of}
+use Rattle.sim_words.specs.declared.values.Mode.{Mode}
+use Rattle.sim_words.specs.declared.values.Mode.TheVariants.{Lockstep}
+use Rattle.image_run.specs.Modes.{is_exact, limit_in, step_in}
+
+-- the state is lockstep's, at the checkpoint where a run cycle by cycle stops
+pub record IsLockstepAt {Inner Chan : Type 0} (rules : Rules Inner Chan) (interval limit : ℕ) (s e : StateValue Inner Chan) : Type 0 where
+  pub state : IsLockstepOf rules s e
+  pub stops : Stops rules interval limit s e.clock
+
+-- the rules of the machine that runs an image
+abbrev pub rules_for : RawConfig → Image → Rules HartValue ChannelValue
+rules_for config image = rules_of config (code_of image config)
+
+-- the machine is that of cycle-by-cycle simulation of the image, at the checkpoint where such a run stops
+pub record IsLockstepEnd (config : RawConfig) (image : Image) (m : StateValue HartValue ChannelValue) : Type 0 where
+  pub state : m ≡ lockstep (rules_for config image) (start_of config image) m.clock
+  pub stops : Stops (rules_for config image) config.interval config.limit (start_of config image) m.clock
+
+-- a run of the image in this mode, by these steps if it is of a given interleaving, left these notes and this machine
+pub record IsRunEnd (config : RawConfig) (mode : Mode) (steps : List Step) (image : Image) (notes : List Interval) (m : StateValue HartValue ChannelValue) : Type 0 where
+  -- it went from interval to interval, each as the mode allows
+  pub ends : Ends (rules_for config image) config.interval (limit_in mode config) (step_in (rules_for config image) mode steps) (start_of config image) notes m
+  -- in an exact mode it ended as lockstep does
+  pub exact : IsTrue (is_exact mode) → IsLockstepEnd config image m
+  -- cycle by cycle there is nothing to note
+  pub silent : mode ≡ Lockstep → notes ≡ []

@@ -1,0 +1,9 @@
+//! Running an image in one of the modes.
+#![tactic(auto)]
+
+pub mod modes;
+pub mod runs;
+pub mod ticks;
+
+pub use modes::is_built;
+pub use runs::{Ran, run_image};

@@ -1,0 +1,96 @@
+//! A run in each of the modes, of any machine.
+ghost use Rattle.std.specs.Prelude.{◌≡◌, ◌+◌, ◌-◌, ◌<◌, ◌≤◌, [], IfOk, IsTrue, sum_by};
+ghost use Rattle.slack_base.specs.declared.bounds.TheConstants.{TOP};
+ghost use Rattle.slack_base.specs.Numbers.{numbers_of};
+ghost use Rattle.target_law.specs.Proper.{IsProper};
+ghost use Rattle.target_law.specs.Runs.{Ends, IsExact, IsExactEnd};
+ghost use Rattle.target_law.specs.Views.{state_of};
+ghost use Rattle.violation_watch.specs.BoundedNotes.{IsBoundedBy};
+ghost use Rattle.drive_script.specs.Scripts.{IsScriptOf};
+ghost use Rattle.image_run.specs.Ends.{IsLockstepAt};
+ghost use Rattle.image_run.specs.Modes.{is_built, is_exact, limit_in, step_in};
+ghost use Rattle.image_run.specs.Ticks.{cycles_of};
+
+use drive_script::script_run;
+use sim_words::Mode;
+use slack_base::{Config, NoteList, OutOfMemory, StepList};
+use std::alloc::Global;
+use target_law::{Bounded, State, Target, run};
+
+/// Whether the mode is there.
+pub fn is_built(mode: Mode) -> bool
+    ensures { result ≡ is_built mode }
+{
+    matches!(mode, Mode::Lockstep | Mode::Script)
+}
+
+/// A run from clock 0 in a mode that is there, by these steps if it is of a given interleaving.
+pub fn run_in_mode<T: Target>(
+    alloc: Global,
+    target: &T,
+    state: State<T>,
+    config: &Config,
+    mode: Mode,
+    steps: &StepList,
+) -> Result<Bounded<T>, OutOfMemory>
+    requires mode { IsTrue (is_built mode) }
+    requires begins { state.clock ≡ 0 }
+    requires proper { IsProper (T.rules target.now) (T.owns target.now) (state_of T.values state) }
+    ensures ends { IfOk result (λ r. Ends (T.rules target.now) config.now.interval (limit_in mode (numbers_of config.now)) (step_in (T.rules target.now) mode steps.now) (state_of T.values state) r.notes (state_of T.values r.end)) }
+    ensures exact { IfOk result (λ r. IsTrue (is_exact mode) → IsLockstepAt (T.rules target.now) config.now.interval config.now.limit (state_of T.values state) (state_of T.values r.end)) }
+    ensures silent { IfOk result (λ r. mode ≡ Mode.Lockstep → r.notes ≡ []) }
+    ensures few { IfOk result (λ r. sum_by cycles_of r.notes ≤ config.now.limit) }
+    ensures proper { IfOk result (λ r. IsProper (T.rules target.now) (T.owns target.now) (state_of T.values r.end)) }
+{
+    let interval = u64::from(config.interval);
+    let limit = u64::from(config.limit);
+    match mode {
+        Mode::Lockstep => run_cycle_by_cycle(alloc, target, state, interval, limit),
+        Mode::Script => run_script(alloc, target, state, interval, interval.min(limit), steps),
+        Mode::Quantum | Mode::Bounded | Mode::Speculative => unreachable!(),
+    }
+}
+
+/// A run cycle by cycle: nothing is noted.
+pub fn run_cycle_by_cycle<T: Target>(
+    alloc: Global,
+    target: &T,
+    mut state: State<T>,
+    interval: u64,
+    limit: u64,
+) -> Result<Bounded<T>, OutOfMemory>
+    requires begins { state.clock ≤ limit }
+    requires top { limit ≤ TOP }
+    requires interval { 1 ≤ interval }
+    requires proper { IsProper (T.rules target.now) (T.owns target.now) (state_of T.values state) }
+    ensures ends { IfOk result (λ r. Ends (T.rules target.now) interval limit (IsExact (T.rules target.now)) (state_of T.values state) r.notes (state_of T.values r.end)) }
+    ensures exact { IfOk result (λ r. IsExactEnd (T.rules target.now) interval limit (state_of T.values state) r.notes (state_of T.values r.end)) }
+    ensures proper { IfOk result (λ r. IsProper (T.rules target.now) (T.owns target.now) (state_of T.values r.end)) }
+{
+    run(alloc, target, &mut state, interval, limit)?;
+    Ok(Bounded {
+        end: state,
+        notes: NoteList::new(alloc),
+    })
+}
+
+/// A run in a given interleaving, which is of one interval.
+pub fn run_script<T: Target>(
+    alloc: Global,
+    target: &T,
+    state: State<T>,
+    interval: u64,
+    limit: u64,
+    steps: &StepList,
+) -> Result<Bounded<T>, OutOfMemory>
+    requires begins { state.clock < limit }
+    requires top { limit ≤ TOP }
+    requires one { limit ≤ state.clock + interval }
+    requires proper { IsProper (T.rules target.now) (T.owns target.now) (state_of T.values state) }
+    ensures ends { IfOk result (λ r. Ends (T.rules target.now) interval limit (IsBoundedBy (T.rules target.now) (IsScriptOf (T.rules target.now) steps.now)) (state_of T.values state) r.notes (state_of T.values r.end)) }
+    ensures cycles { IfOk result (λ r. sum_by cycles_of r.notes ≡ limit - state.clock) }
+    ensures proper { IfOk result (λ r. IsProper (T.rules target.now) (T.owns target.now) (state_of T.values r.end)) }
+{
+    let cycles = limit - state.clock;
+    script_run(alloc, target, state, cycles, steps)
+}

@@ -1,0 +1,86 @@
+//! Runs in a given interleaving, with the reports and the notes that the rules give.
+use super::{Case, call, check};
+use crate::answers::Answer;
+use std::test::Fail;
+
+const ALL_ZERO: Answer = Answer::Done { all_zero: true };
+
+/// Each core stores its number in one line, and exits with 0.
+const STORES: &[u8] = b"lui x8, 1\nsw x10, 0(x8)\naddi x17, x0, 93\naddi x10, x0, 0\necall";
+
+/// A core loads a word, and exits with 0.
+const LOADS: &[u8] = b"lui x8, 1\nlw x5, 0(x8)\naddi x17, x0, 93\naddi x10, x0, 0\necall";
+
+const SCRIPTS: [Case; 3] = [
+    // Core 1 runs ahead, and its ask is served before core 0's of the same cycle: the two change places.
+    Case {
+        words: &[
+            "run",
+            "--cores",
+            "2",
+            "--mode",
+            "script",
+            "--notes",
+            "on",
+            "--steps",
+            "t1x2,s1,t0x2,s0",
+        ],
+        input: STORES,
+        status: 0,
+        answer: ALL_ZERO,
+        text: b"cores 2\ncycles 22\ncore 0 exit 0 at 21 retired 5 accesses 1 misses 6 retries 5 waits 11 snoops 0 writebacks 0\ncore 1 exit 0 at 14 retired 5 accesses 1 misses 1 retries 0 waits 9 snoops 1 writebacks 0\nbus 0 asks 8 retries 5 free 17\nconsole 0\n\ninterval 0 bounded 1000 bus 1 map 1 line 0 reply 0\nbus channel 0 high 1.1.0 low 1.0.0\nmap line 256 high 1.1.0 low 1.0.0\nticks drift 2000 replay 0\n",
+    },
+    // The reply is due at 11, and the core takes it at 12, which is the end: it is late.
+    Case {
+        words: &[
+            "run",
+            "--mode",
+            "script",
+            "--interval",
+            "12",
+            "--limit",
+            "12",
+            "--notes",
+            "on",
+            "--steps",
+            "t0x12,s0",
+        ],
+        input: LOADS,
+        status: 4,
+        answer: Answer::Limit {
+            cycle: 12,
+            running: 1,
+        },
+        text: b"cores 1\ncycles 12\ncore 0 running at 12 retired 1 accesses 0 misses 1 retries 0 waits 10 snoops 0 writebacks 0\nbus 0 asks 1 retries 0 free 3\nconsole 0\n\ninterval 0 bounded 12 bus 0 map 0 line 0 reply 1\nreply core 0 id 1.0.0 due 11 clock 12\nticks drift 12 replay 0\n",
+    },
+    // Taken at 11, it isn't late. The run is of one interval, whatever the limit.
+    Case {
+        words: &[
+            "run",
+            "--mode",
+            "script",
+            "--interval",
+            "11",
+            "--notes",
+            "on",
+            "--steps",
+            "t0x11,s0",
+        ],
+        input: LOADS,
+        status: 4,
+        answer: Answer::Limit {
+            cycle: 11,
+            running: 1,
+        },
+        text: b"cores 1\ncycles 11\ncore 0 running at 11 retired 1 accesses 0 misses 1 retries 0 waits 9 snoops 0 writebacks 0\nbus 0 asks 1 retries 0 free 3\nconsole 0\n\ninterval 0 bounded 11 bus 0 map 0 line 0 reply 0\nticks drift 11 replay 0\n",
+    },
+];
+
+#[test]
+fn interleavings_that_are_given(rt: HostRuntime) -> Result<(), Fail> {
+    for case in &SCRIPTS {
+        let image = call(&rt, &["asm"], case.input)?;
+        check(&rt, case, image.text.as_slice())?;
+    }
+    Ok(())
+}

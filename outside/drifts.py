@@ -1,0 +1,87 @@
+"""Drifts of a machine of the model: given interleavings and pieces of cycles, and what the monitors record of them."""
+
+
+class World:
+    """The cores, each at a clock of its own, and what waits between them and the channels."""
+
+    def __init__(self, machine, cycles):
+        self.machine, self.end = machine, machine.clock + cycles
+        count = len(machine.cores)
+        self.clocks = [machine.clock] * count
+        self.asks = [[] for _ in range(count)]
+        self.posts = [[] for _ in range(count)]
+        self.served = []
+        self.taken = [[] for _ in range(count)]
+
+    def tick(self, core):
+        if core < len(self.clocks) and self.clocks[core] < self.end:
+            self.asks[core] += self.machine.cores[core].tick(self.clocks[core], self.machine.memory)
+            self.clocks[core] += 1
+
+    def serve(self, core):
+        if core < len(self.clocks) and self.asks[core]:
+            ask = self.asks[core].pop(0)
+            self.served.append(ask)
+            for post in self.machine.serve(ask):
+                self.posts[post["to"]].append(post)
+
+    def take(self, core):
+        if core < len(self.clocks) and self.posts[core]:
+            post = self.posts[core].pop(0)
+            self.taken[core].append((post, self.clocks[core]))
+            self.machine.cores[core].put(post)
+
+    def finish(self):
+        """All asks, the least id first; then all posts, core by core; then a tick of the first of the slowest; again."""
+        while True:
+            while any(self.asks):
+                self.serve(min((asks[0]["id"], core) for core, asks in enumerate(self.asks) if asks)[1])
+            for core in range(len(self.posts)):
+                while self.posts[core]:
+                    self.take(core)
+            if min(self.clocks) == self.end:
+                break
+            self.tick(self.clocks.index(min(self.clocks)))
+        self.machine.clock = self.end
+
+    def violations(self):
+        """The lines of what the monitors record, each with its kind."""
+        found, channels, lines = [], {}, {}
+        for ask in self.served:
+            console = ask["kind"] == "put"
+            channel = len(self.machine.buses) if console else ask["line"] % len(self.machine.buses)
+            found += self.overtaken("bus", "channel", channels, channel, ask["id"])
+            if not console:
+                found += self.overtaken("map", "", lines, ask["line"], ask["id"])
+        for core, taken in enumerate(self.taken):
+            for post, clock in taken:
+                if clock > post["due"]:
+                    kind = "reply" if post["kind"] in ("reply", "retry") else "line"
+                    found.append((kind, f"{kind} core {core} id {dotted(post['id'])} due {post['due']} clock {clock}"))
+        return found
+
+    @staticmethod
+    def overtaken(kind, name, greatest, key, low):
+        high = greatest.get(key, low)
+        greatest[key] = max(high, low)
+        place = f"{kind} {name} {key}".replace("  ", " ")
+        return [(kind, f"{place} high {dotted(high)} low {dotted(low)}")] if high > low else []
+
+
+def dotted(number):
+    return ".".join(str(part) for part in number)
+
+
+def note(number, cycles, found):
+    kinds = " ".join(f"{kind} {sum(one == kind for one, _ in found)}" for kind in ("bus", "map", "line", "reply"))
+    return "".join(line + "\n" for line in [f"interval {number} bounded {cycles} {kinds}", *(text for _, text in found)])
+
+
+def script(machine, steps):
+    """A run of one interval by these steps, each a letter and a core; its notes."""
+    cycles = min(machine.config["interval"], machine.config["limit"])
+    world = World(machine, cycles)
+    for kind, core in steps:
+        {"t": world.tick, "s": world.serve, "p": world.take}[kind](core)
+    world.finish()
+    return note(0, cycles, world.violations()) + f"ticks drift {len(machine.cores) * cycles} replay 0\n"
