@@ -52,7 +52,7 @@ class World:
             channel = len(self.machine.buses) if console else ask["line"] % len(self.machine.buses)
             found += self.overtaken("bus", "channel", channels, channel, ask["id"])
             if not console:
-                found += self.overtaken("map", "", lines, ask["line"], ask["id"])
+                found += self.overtaken("map", "line", lines, ask["line"], ask["id"])
         for core, taken in enumerate(self.taken):
             for post, clock in taken:
                 if clock > post["due"]:
@@ -64,8 +64,7 @@ class World:
     def overtaken(kind, name, greatest, key, low):
         high = greatest.get(key, low)
         greatest[key] = max(high, low)
-        place = f"{kind} {name} {key}".replace("  ", " ")
-        return [(kind, f"{place} high {dotted(high)} low {dotted(low)}")] if high > low else []
+        return [(kind, f"{kind} {name} {key} high {dotted(high)} low {dotted(low)}")] if high > low else []
 
 
 def dotted(number):

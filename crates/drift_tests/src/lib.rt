@@ -1,0 +1,10 @@
+//! Tests of drifts of the RISC-V machine: each is gone through once more by plain code, and where nothing was seen, its end
+//! is that of lockstep.
+#![tactic(auto)]
+
+#[cfg(test)]
+mod machines;
+#[cfg(test)]
+mod quiet;
+#[cfg(test)]
+mod replays;
