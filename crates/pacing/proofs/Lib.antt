@@ -7,6 +7,7 @@ pub mod Opened
 pub mod Drifting
 pub mod Ending
 pub mod Onlys
+pub mod Once
 -- short pieces
 pub mod Quiet
 pub mod Exact

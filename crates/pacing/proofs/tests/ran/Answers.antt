@@ -1,4 +1,4 @@
-use Rattle.std.proofs.Common.{◌≤◌, ap, arith}
+use Rattle.std.proofs.Common.{ap, arith}
 use Rattle.target_law.specs.Cycles.{StateValue}
 use Rattle.target_law.specs.Trio.{TrioInner, TrioChannel}
 use Rattle.pacing.proofs.tests.ran.Goals as goal
