@@ -122,7 +122,7 @@ fn close_lanes<C: Send + Drop, T: Target<Core = C>>(
 }
 
 /// Closes each channel.
-fn close_all<D: Send + Drop, T: Target<Chan = D>>(target: &T, chans: &mut Vec<D>)
+pub fn close_all<D: Send + Drop, T: Target<Chan = D>>(target: &T, chans: &mut Vec<D>)
     requires { AllNumbered (IsChanOf (T.rules target.now) (T.owns target.now)) 0 (map T.values.chan chans.old.items) }
     ensures { map T.values.chan chans.new.items ≡ map (T.rules target.now).close (map T.values.chan chans.old.items) }
 {

@@ -79,7 +79,7 @@ fn queue_all(queue: &mut VecDeque<Ask>, asks: &[Ask]) -> Result<(), OutOfMemory>
 }
 
 /// The core's touch for an Invalidate, and 0 for every other post.
-fn touch<C: Send + Drop, T: Target<Core = C>>(target: &T, core: &C, post: &Post) -> u64
+pub fn touch<C: Send + Drop, T: Target<Core = C>>(target: &T, core: &C, post: &Post) -> u64
     requires { IsPostTo (T.rules target.now) ((T.rules target.now).core_number (T.values.core core.now).inner) post.now }
     ensures { result ≡ touch_of (T.rules target.now) (T.values.core core.now).inner post.now }
 {

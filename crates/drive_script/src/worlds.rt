@@ -123,7 +123,7 @@ fn next_ask(queue: &mut VecDeque<Ask>) -> Option<Ask>
 }
 
 /// Serves an ask on its channel. What it clashes with just before, and its posts, are appended.
-fn serve_ask<D: Send + Drop, T: Target<Chan = D>>(
+pub fn serve_ask<D: Send + Drop, T: Target<Chan = D>>(
     target: &T,
     chans: &mut Vec<D>,
     ask: &Ask,

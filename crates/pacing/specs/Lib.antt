@@ -1,0 +1,5 @@
+pub mod Exact
+pub mod Laws
+pub mod Open
+pub mod Pieces
+pub mod Views
