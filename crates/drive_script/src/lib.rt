@@ -9,6 +9,7 @@ pub mod laws;
 pub mod worlds;
 
 pub use drives::drive;
+pub use lanes::Lane;
 
 #[cfg(test)]
 mod tests;
