@@ -1,35 +1,31 @@
 -- An actor goes on: each step of a turn leaves it ready, and it comes still of what it came of.
-use Rattle.std.proofs.Common.{◌≡◌, ◌∙◌, ℕ, ◌+◌, ◌<◌, ◌≤◌, suc, List, [], ◌∷◌, ◌++◌, map, Bool, IsTrue, IsFalse, refl, sym, ap, ap₂, subst, arith, append_assoc, le_refl, le_trans, ⊎_elim}
-use Rattle.std.specs.List.{AllByRecursion as Each}
-use Rattle.std.proofs.lemmas.Bool.{cases_eq}
-use Rattle.std.proofs.lemmas.List.{append-nil, map-append}
+use Rattle.std.proofs.Common.{◌≡◌, ◌∙◌, ℕ, ◌+◌, ◌<◌, ◌≤◌, suc, List, [], ◌∷◌, ◌++◌, length, map, Bool, true, false, nat_lt, IsTrue, IsFalse, refl, sym, ap, ap₂, subst, arith, append_assoc, le_refl, le_trans, ⊎_elim, inl, inr}
+use Rattle.std.proofs.lemmas.Bool.{cases_eq, ltb-true, ltb-false}
+use Rattle.std.proofs.lemmas.List.{append-nil, length-append, map-append}
 use Rattle.slack_base.specs.declared.histories.Taken.{Taken}
 use Rattle.slack_base.specs.declared.messages.Ask.{Ask}
 use Rattle.slack_base.specs.declared.messages.Post.{Post}
-use Rattle.slack_base.specs.Inboxes.{CoreValue}
-use Rattle.slack_base.specs.Messages.{id_of}
 use Rattle.slack_base.proofs.Inboxes.{all_with_post}
 use Rattle.stamp_queue.specs.declared.senders.Sender.{Sender}
 use Rattle.stamp_queue.specs.declared.receivers.Receiver.{Receiver}
 use Rattle.stamp_queue.specs.Rings.{all_sent, all_received, SameSender, SameReceiver, HandsOver}
 use Rattle.core_gate.specs.Seats.{SamePacer}
 use Rattle.core_gate.specs.declared.pacers.Pacer.{Pacer}
-use Rattle.target_law.specs.Alone.{Alone, begins, taking}
+use Rattle.target_law.specs.Alone.{begins, taking}
 use Rattle.target_law.specs.Cycles.{tick_of}
 use Rattle.target_law.specs.Laws.{Laws}
-use Rattle.target_law.specs.Proper.{IsPostTo, IsCoreOf}
+use Rattle.target_law.specs.Proper.{IsPostTo}
 use Rattle.target_law.specs.Rules.{Rules, Owns}
-use Rattle.target_law.specs.Served.{AreRising}
 use Rattle.target_law.specs.Values.{Values}
 use Rattle.target_law.proofs.Lists.{each_append}
-use Rattle.violation_watch.specs.Watching.{SawTaken, HasTaken, begins as new_watch, takes as watch_takes}
-use Rattle.drive_script.specs.Open.{IsAskOf, IsLaneOf}
-use Rattle.drive_script.specs.Worlds.{LaneValue, lane_ticked}
+use Rattle.violation_watch.specs.Watching.{HasTaken, begins as new_watch, takes as watch_takes}
+use Rattle.drive_script.specs.Open.{IsLaneOf}
+use Rattle.drive_script.specs.Worlds.{LaneValue}
 use Rattle.drive_script.proofs.Opened.{lane_open_ticked}
-use Rattle.core_actor.specs.Actors.{IsBegun, IsReady, IsAlone, Went}
-use Rattle.core_actor.specs.Beginnings.{IsBegunFor, AllBegin}
+use Rattle.core_actor.specs.Actors.{IsReady, HasTurned, Went}
+use Rattle.core_actor.specs.Beginnings.{AllBegin}
 use Rattle.core_actor.specs.declared.actors.CoreActor.{CoreActor}
-use Rattle.core_actor.proofs.Steps.{alone_takes, alone_ticks, ticked_below, Took, Ticked}
+use Rattle.core_actor.proofs.Steps.{alone_takes, alone_ticks, ticked_below, Took}
 
 pub same_sender : (a : Sender Ask) → SameSender a a
 same_sender a = ((refl, refl, refl, refl), refl)
@@ -53,8 +49,7 @@ module _ {Core Chan Inner Channel : Type 0} (rules : Rules Inner Channel) (owns 
       let is = h.begun in
       let number : a.pacer.number ≡ pacer.number = ap (λ (p : Pacer). p.number) is.paced in
       let sent : all_sent a.asks ≡ [] = ap all_sent is.sends ∙ h.sent in
-      let none : all_received a.posts ≡ [] = ap all_received is.receives ∙ h.received in
-      (
+      let none : all_received a.posts ≡ [] = ap all_received is.receives ∙ h.received in (
         record {
           core = rw (is.has_core, number) h.own;
           paced = is.clock ∙ ap (λ (p : Pacer). p.clock) (sym is.paced);
@@ -79,6 +74,7 @@ module _ {Core Chan Inner Channel : Type 0} (rules : Rules Inner Channel) (owns 
       posts = same_receiver_then a.posts b.posts d.posts h.posts k.posts;
       pacer = same_pacer_then a.pacer b.pacer d.pacer h.pacer k.pacer;
       seen = le_trans h.seen k.seen;
+      received = (h.received.0 ++ k.received.0, k.received.1 ∙ ap (λ ps. ps ++ k.received.0) h.received.1 ∙ append_assoc (all_received a.posts) h.received.0 k.received.0);
       clock = le_trans h.clock k.clock;
       alone = λ from first x. k.alone from first (h.alone from first x);
     }
@@ -89,9 +85,25 @@ module _ {Core Chan Inner Channel : Type 0} (rules : Rules Inner Channel) (owns 
       asks = same_sender a.asks;
       posts = same_receiver a.posts;
       pacer = (refl, refl, refl);
+      received = ([], sym (append-nil (all_received a.posts)));
       seen = le_refl a.pacer.seen;
       clock = le_refl a.lane.clock;
       alone = λ from first x. x;
+    }
+
+    -- a turn after other steps
+    pub turned_from : (a b d : CoreActor Core) → Went rules owns values end a b → HasTurned rules b d → HasTurned rules a d
+    turned_from a b d h k = record {
+      sent = k.sent;
+      received = ⊎_elim
+          (λ none. inl none)
+          (λ most. inr (
+          let more = ap length h.received.1 ∙ length-append (all_received a.posts) h.received.0 in
+          let slots = h.posts.1 in
+          omega arith
+          ))
+          k.received;
+      taken = k.taken;
     }
 
     -- messages passed: nothing more was sent, and what was received waits
@@ -124,6 +136,7 @@ module _ {Core Chan Inner Channel : Type 0} (rules : Rules Inner Channel) (owns 
         asks = sender;
         posts = receiver;
         pacer = same;
+        received = (handed.0, handed.1);
         seen = seen;
         clock = rw clock (le_refl a.lane.clock);
         alone = λ from first x. record { count = x.count; at = clock ∙ x.at; alone = rw (taken, core, sent) x.alone };
@@ -166,13 +179,14 @@ module _ {Core Chan Inner Channel : Type 0} (rules : Rules Inner Channel) (owns 
         asks = rw asks (same_sender a.asks);
         posts = rw posts (same_receiver a.posts);
         pacer = rw pacer (refl, refl, refl);
+        received = ([], ap all_received posts ∙ sym (append-nil (all_received a.posts)));
         seen = rw pacer (le_refl a.pacer.seen);
         clock = rw took.clock (le_refl a.lane.clock);
         alone = λ from first y. record {
-            count = y.count;
-            at = took.clock ∙ y.at;
-            alone = rw (took.taken, took.core, asks) (alone_takes rules from y.count a.lane.clock first a.lane.taken (values.core a.lane.core) (all_sent a.asks) p y.at y.alone);
-          };
+          count = y.count;
+          at = took.clock ∙ y.at;
+          alone = rw (took.taken, took.core, asks) (alone_takes rules from y.count a.lane.clock first a.lane.taken (values.core a.lane.core) (all_sent a.asks) p y.at y.alone);
+        };
       }
 
     -- it ticked, and the asks were sent
@@ -217,13 +231,14 @@ module _ {Core Chan Inner Channel : Type 0} (rules : Rules Inner Channel) (owns 
         asks = sender;
         posts = rw posts (same_receiver a.posts);
         pacer = same;
+        received = ([], ap all_received posts ∙ sym (append-nil (all_received a.posts)));
         seen = rw seen (le_refl a.pacer.seen);
         clock = omega arith;
         alone = λ from first x. record {
-            count = suc x.count;
-            at = let at = x.at in omega arith;
-            alone = rw (taken, core, sent) (alone_ticks rules from x.count a.lane.clock first a.lane.taken (values.core a.lane.core) (all_sent a.asks) x.at x.alone);
-          };
+          count = suc x.count;
+          at = let at = x.at in omega arith;
+          alone = rw (taken, core, sent) (alone_ticks rules from x.count a.lane.clock first a.lane.taken (values.core a.lane.core) (all_sent a.asks) x.at x.alone);
+        };
       }
 
 pub unheld_more : (must : ℕ → ℕ → Bool) (n from clock next : ℕ) → ((t : ℕ) → from ≤ t → t < clock → IsFalse (must n t)) → next ≡ clock + 1 → IsFalse (must n clock) → (t : ℕ) → from ≤ t → t < next → IsFalse (must n t)
@@ -232,3 +247,15 @@ unheld_more must n from clock next h e here t lo hi =
 
 pub at_number : (may : ℕ → ℕ → Bool) (n m k : ℕ) → n ≡ m → IsTrue (may n k) → IsTrue (may m k)
 at_number may n m k e h = subst (λ (j : ℕ). IsTrue (may j k)) e h
+
+not_true : (x b : Bool) → (IsTrue x → IsTrue b) → b ≡ false → IsFalse x
+not_true true b h e = let yes = h refl in cc
+not_true false b h e = refl
+
+-- the gate didn't hold the core
+pub unheld_here : (must : ℕ → ℕ → Bool) (n m k l : ℕ) (held : Bool) → n ≡ m → k ≡ l → (IsTrue (must n k) → IsTrue held) → held ≡ false → IsFalse (must m l)
+unheld_here must n m k l held e f h off = subst (λ (j : ℕ). IsFalse (must j l)) e (subst (λ (j : ℕ). IsFalse (must n j)) f (not_true (must n k) held h off))
+
+-- the core was at the slack
+pub not_below : (b : Bool) (m n : ℕ) → (m < n → IsTrue b) → b ≡ false → n ≤ m
+not_below b m n h off = elim (nat_lt m n) as (λ d. nat_lt m n ≡ d → n ≤ m) [ true ↦ λ t. let yes = h (ltb-true m n t) in cc | false ↦ λ t. ltb-false m n t ] refl

@@ -28,4 +28,4 @@ module _ {Core Chan Inner Channel : Type 0} (rules : Rules Inner Channel) (owns 
   AllBegin =
       (end : ℕ) (core : Core) (asks : Sender Ask) (posts : Receiver Post) (pacer : Pacer) (a : CoreActor Core)
       → IsBegunFor end core asks posts pacer a
-      → IsReady rules owns values end a × IsAlone rules owns values pacer.clock (values.core core) a
+      → IsReady rules owns values end a × IsAlone rules values pacer.clock (values.core core) a

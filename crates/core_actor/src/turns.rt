@@ -1,8 +1,12 @@
 //! The steps of a turn.
-ghost use Rattle.std.specs.Prelude.{◌≡◌, ◌++◌, [], OnOk};
+ghost use Rattle.std.specs.Prelude.{◌≡◌, ◌+◌, ◌<◌, ◌++◌, [], OnOk};
+ghost use Rattle.slack_base.specs.declared.bounds.TheConstants.{TOP};
+ghost use Rattle.core_gate.specs.Seats.{SamePacer};
 ghost use Rattle.stamp_queue.specs.Rings.{all_sent, HandsOver, SameSender, SameReceiver};
+ghost use Rattle.core_actor.specs.Actors.{HasFlushed, HasReceived};
 
 use crate::actors::CoreActor;
+use core_gate::Pacer;
 use slack_base::{Ask, OutOfMemory, Post};
 use stamp_queue::{AskSender, PostReceiver};
 use std::collections::VecDeque;
@@ -10,7 +14,8 @@ use target_law::Target;
 
 impl<C: Send + Drop> CoreActor<C> {
     ghost use Rattle.std.specs.Prelude.{◌≡◌, ◌+◌, ◌<◌, ◌≤◌, IsTrue, IsFalse, OnOk, length};
-    ghost use Rattle.core_actor.specs.Actors.{IsReady, Went, is_next_proper};
+    ghost use Rattle.core_actor.specs.Actors.{IsReady, HasTurned, Went, is_next_proper};
+    ghost use Rattle.core_actor.specs.declared.actors.CoreActor.{CoreActor};
 
     /// Looks at global time, and then lets messages pass: sends what waits for room, receives what the ring shows, and
     /// takes what is proper. So a core that sees a global time finds what was posted for asks before it.
@@ -22,7 +27,7 @@ impl<C: Send + Drop> CoreActor<C> {
         requires { IsReady (T.rules target.now) (T.owns target.now) T.values end self.old }
         ensures went { OnOk result (Went (T.rules target.now) (T.owns target.now) T.values end self.old self.new) }
         ensures clock { OnOk result (self.new.lane.clock ≡ self.old.lane.clock) }
-        ensures taken { OnOk result (IsFalse (is_next_proper (T.rules target.now) self.new.pacer.number self.new.lane.posts.items)) }
+        ensures turned { OnOk result (HasTurned (T.rules target.now) self.old self.new) }
     {
         self.pacer.observe();
         self.asks.flush();
@@ -36,6 +41,7 @@ impl<C: Send + Drop> CoreActor<C> {
         ensures went { OnOk result (Went (T.rules target.now) (T.owns target.now) T.values end self.old self.new) }
         ensures clock { OnOk result (self.new.lane.clock ≡ self.old.lane.clock) }
         ensures taken { OnOk result (IsFalse (is_next_proper (T.rules target.now) self.new.pacer.number self.new.lane.posts.items)) }
+        ensures ends { OnOk result ((self.new.asks ≡ self.old.asks) × (self.new.posts ≡ self.old.posts)) }
     {
         while self.next_is_proper(target) {
             self.take_one(target, end)?;
@@ -59,14 +65,14 @@ impl<C: Send + Drop> CoreActor<C> {
         requires proper { IsTrue (is_next_proper (T.rules target.now) self.old.pacer.number self.old.lane.posts.items) }
         ensures went { OnOk result (Went (T.rules target.now) (T.owns target.now) T.values end self.old self.new) }
         ensures clock { OnOk result (self.new.lane.clock ≡ self.old.lane.clock) }
+        ensures ends { OnOk result ((self.new.asks ≡ self.old.asks) × (self.new.posts ≡ self.old.posts)) }
         ensures fewer { OnOk result (length self.old.lane.posts.items ≡ length self.new.lane.posts.items + 1) }
     {
         self.lane.take(target)?;
         let Some(one) = self.lane.taken.as_slice().last() else {
             unreachable!()
         };
-        self.watch
-            .on_take(self.pacer.number(), &one.post, one.clock, one.touched, end)
+        self.watch.on_take(self.pacer.number(), &one.post, one.clock, one.touched, end)
     }
 
     /// One tick. Its asks are sent before the clock is stored, so that who sees the clock finds them.
@@ -80,11 +86,11 @@ impl<C: Send + Drop> CoreActor<C> {
         requires ahead { self.old.pacer.clock < self.old.pacer.seen + self.old.pacer.slack }
         ensures went { OnOk result (Went (T.rules target.now) (T.owns target.now) T.values end self.old self.new) }
         ensures clock { OnOk result (self.new.lane.clock ≡ self.old.lane.clock + 1) }
-        ensures posts { OnOk result (self.new.lane.posts.items ≡ self.old.lane.posts.items) }
+        ensures turned { OnOk result ((first : CoreActor C) → HasTurned (T.rules target.now) first self.old → HasTurned (T.rules target.now) first self.new) }
     {
         self.lane.tick(target, end, &mut self.out)?;
         send_all(&mut self.asks, &mut self.lane.asks)?;
-        self.pacer.advance();
+        store_clock(&mut self.pacer, &self.lane.asks);
         Ok(())
     }
 }
@@ -93,6 +99,7 @@ impl<C: Send + Drop> CoreActor<C> {
 fn send_all(asks: &mut AskSender, queue: &mut VecDeque<Ask>) -> Result<(), OutOfMemory>
     ensures sent { OnOk result (all_sent asks.new ≡ all_sent asks.old ++ queue.old.items) }
     ensures none { OnOk result (queue.new.items ≡ []) }
+    ensures flushed { HasFlushed asks.old → HasFlushed asks.new }
     ensures same { SameSender asks.old asks.new }
 {
     while let Some(ask) = queue.pop_front() {
@@ -101,12 +108,22 @@ fn send_all(asks: &mut AskSender, queue: &mut VecDeque<Ask>) -> Result<(), OutOf
     Ok(())
 }
 
+/// Stores a core's clock, one higher, once all asks of its tick were sent: none is left in the queue.
+fn store_clock(pacer: &mut Pacer, queue: &VecDeque<Ask>)
+    requires sent { queue.now.items ≡ [] }
+    requires ahead { pacer.old.clock < pacer.old.seen + pacer.old.slack }
+    requires top { pacer.old.clock < TOP }
+    ensures clock { pacer.new.clock ≡ pacer.old.clock + 1 }
+    ensures seen { pacer.new.seen ≡ pacer.old.seen }
+    ensures same { SamePacer pacer.old pacer.new }
+{
+    pacer.advance();
+}
+
 /// Receives what a ring shows, at most as many posts as it has slots, and puts them behind those that wait.
-fn receive_shown(
-    posts: &mut PostReceiver,
-    queue: &mut VecDeque<Post>,
-) -> Result<(), OutOfMemory>
+fn receive_shown(posts: &mut PostReceiver, queue: &mut VecDeque<Post>) -> Result<(), OutOfMemory>
     ensures handed { OnOk result (HandsOver posts.old posts.new queue.old.items queue.new.items) }
+    ensures received { OnOk result (HasReceived posts.old posts.new) }
     ensures same { SameReceiver posts.old posts.new }
 {
     for _ in 0..posts.slots() {

@@ -1,7 +1,6 @@
-use Rattle.std.proofs.Common.{◌∙◌, refl}
+use Rattle.std.proofs.Common.{refl}
 use Rattle.core_actor.specs.declared.actors.CoreActor.{CoreActor}
-use Rattle.core_actor.proofs.Goes.{ready_passed, went_passed, Went-then}
-use Rattle.core_actor.proofs.Steps.{on_ok}
+use Rattle.core_actor.proofs.Goes.{ready_passed}
 use Rattle.core_actor.proofs.actors.CoreActor.exchange.Goals as goal
 
 pub take_proper-requires-after_bounds : goal.take_proper-requires-after_bounds

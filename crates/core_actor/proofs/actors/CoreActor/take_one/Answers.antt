@@ -2,7 +2,6 @@ use Rattle.std.proofs.Common.{◌≡◌, ◌∙◌, ◌++◌, ◌-◌, List, len
 use Rattle.std.specs.List.{slice_get}
 use Rattle.slack_base.specs.declared.histories.Taken.{Taken}
 use Rattle.violation_watch.specs.Scan.{take_entries}
-use Rattle.violation_watch.specs.declared.watches.Watch.{Watch}
 use Rattle.target_law.specs.Alone.{taking}
 use Rattle.core_actor.specs.declared.actors.CoreActor.{CoreActor}
 use Rattle.core_actor.proofs.Goes.{went_took}

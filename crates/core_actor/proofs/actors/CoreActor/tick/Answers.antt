@@ -16,4 +16,4 @@ returns-clause-went g c =
     let sends = c.in_ok-send_all.ensures in
     went_ticked rules (g.T.Target.owns t) values c.args.end (g.met.T.Target.laws t) a _ c.requires.ready c.requires.open now.core now.clock sends.none now.posts now.taken refl
     (sends.sent ∙ ap (λ asks. all_sent a.asks ++ asks) (now.asks ∙ ap (λ asks. asks ++ (tick_of rules a.lane.clock (values.core a.lane.core)).1) c.requires.ready.no_asks))
-    refl c.advance.ensures.clock c.advance.ensures.same sends.same c.advance.ensures.seen
+    refl c.store_clock.ensures.clock c.store_clock.ensures.same sends.same c.store_clock.ensures.seen
