@@ -7,3 +7,6 @@ pub mod legs;
 pub mod turns;
 
 pub use actors::{ActorParts, CoreActor};
+
+#[cfg(test)]
+mod tests;

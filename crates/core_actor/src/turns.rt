@@ -108,9 +108,9 @@ fn send_all(asks: &mut AskSender, queue: &mut VecDeque<Ask>) -> Result<(), OutOf
     Ok(())
 }
 
-/// Stores a core's clock, one higher, once all asks of its tick were sent: none is left in the queue.
-fn store_clock(pacer: &mut Pacer, queue: &VecDeque<Ask>)
-    requires sent { queue.now.items ≡ [] }
+/// Stores a core's clock, one higher. The queue of its asks is passed so that this can be called only once all were sent.
+fn store_clock(pacer: &mut Pacer, _queue: &VecDeque<Ask>)
+    requires sent { _queue.now.items ≡ [] }
     requires ahead { pacer.old.clock < pacer.old.seen + pacer.old.slack }
     requires top { pacer.old.clock < TOP }
     ensures clock { pacer.new.clock ≡ pacer.old.clock + 1 }
