@@ -15,34 +15,28 @@ fn stop_at(alloc: Global, clock: u64) -> Result<StopGate, OutOfMemory> {
     Ok(StopGate { stops })
 }
 
-/// By the number of slots and the patience: legs, each to a clock, and the cycles of the next two asks that the ring shows
-/// then. Where the ring is short the asks wait, and come out in order later.
+/// By the number of slots and the patience: four legs, each to a clock, and the cycles of the next two asks that the ring
+/// shows then. Where the ring is short the asks wait, and come out in order later.
 #[rattlefmt::skip]
-const ASKS: [(u32, u32, u64, Option<u64>, Option<u64>); 8] = [
-    (1, 0, 5, Some(0), None),
-    (1, 0, 6, Some(2), None),
-    (1, 0, 7, Some(4), None),
-    (1, 0, 8, Some(6), None),
-    (16, 3, 5, Some(0), Some(2)),
-    (16, 3, 6, Some(4), None),
-    (16, 3, 7, Some(6), None),
-    (16, 3, 8, None, None),
+const ASKS: [(u32, u32, [(u64, Option<u64>, Option<u64>); 4]); 2] = [
+    (1, 0, [(5, Some(0), None), (6, Some(2), None), (7, Some(4), None), (8, Some(6), None)]),
+    (16, 3, [(5, Some(0), Some(2)), (6, Some(4), None), (7, Some(6), None), (8, None, None)]),
 ];
 
 #[test]
 fn asks_come_out_in_order(rt: HostRuntime) -> Result<(), Fail> {
     let alloc = rt.alloc();
-    let mut bench = Bench::new(alloc, 1, 8)?;
-    let mut last = 1;
-    for (slots, patience, clock, first, second) in &ASKS {
-        if *slots != last {
-            bench = Bench::new(alloc, 16, 8)?;
-            last = *slots;
+    for (slots, patience, legs) in &ASKS {
+        let mut bench = Bench::new(alloc, *slots, 8)?;
+        for (clock, first, second) in legs {
+            bench = bench.leg(&stop_at(alloc, *clock)?, *patience)?;
+            assert_eq!(rt; bench.actor.lane.clock, *clock, "{slots} slots");
+            assert_eq!(rt;
+                bench.next_asks(),
+                (*first, *second),
+                "{slots} slots, clock {clock}"
+            );
         }
-        bench = bench.leg(&stop_at(alloc, *clock)?, *patience)?;
-        assert_eq!(rt; bench.actor.lane.clock, *clock);
-        assert_eq!(rt; bench.next_ask(), *first, "{slots} slots, clock {clock}");
-        assert_eq!(rt; bench.next_ask(), *second, "{slots} slots, clock {clock}");
     }
     Ok(())
 }

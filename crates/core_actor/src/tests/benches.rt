@@ -73,11 +73,18 @@ impl Bench {
         self.overseer.raise()
     }
 
-    /// The cycle of the next ask that the ring shows.
-    pub fn next_ask(&mut self) -> Option<u64>
+    /// The cycles of the next two asks that the ring shows.
+    pub fn next_asks(&mut self) -> (Option<u64>, Option<u64>)
         ensures { self.new.actor ≡ self.old.actor }
     {
-        let ask = self.asks.receive()?;
-        Some(ask.id().cycle)
+        let first = next_cycle(&mut self.asks);
+        let second = next_cycle(&mut self.asks);
+        (first, second)
     }
+}
+
+/// The cycle of the next ask that a ring shows.
+fn next_cycle(asks: &mut AskReceiver) -> Option<u64> {
+    let ask = asks.receive()?;
+    Some(ask.id().cycle)
 }

@@ -1,8 +1,7 @@
-use Rattle.std.proofs.Common.{◌≡◌, ◌∙◌, ◌≤◌, ℕ, suc, List, [], ◌∷◌, ◌++◌, length, Some, sym, ap, refl, arith}
+use Rattle.std.proofs.Common.{◌≡◌, ◌∙◌, suc, List, [], ◌∷◌, ◌++◌, length, Some, sym, ap, refl, arith}
 use Rattle.std.specs.List.{slice_get}
 use Rattle.std.proofs.lemmas.List.{length-append}
 use Rattle.std.proofs.lemmas.List.Elements.{All-nil}
-use Rattle.slack_base.specs.declared.bounds.TheConstants.{TOP}
 use Rattle.core_gate.specs.declared.pacers.Pacer.{Pacer}
 use Rattle.target_law.specs.Proper.{IsPostTo, IsCoreOf}
 use Rattle.target_law.specs.Trio.{trio_rules, trio_owns, trio_values, first_core}
