@@ -70,6 +70,13 @@ impl Pacer {
         })
     }
 
+    /// The number of the core.
+    pub fn number(&self) -> u32
+        ensures { result ≡ self.now.number }
+    {
+        self.number
+    }
+
     /// The core's clock, in cycles.
     pub fn clock(&self) -> u64
         ensures { result ≡ self.now.clock }

@@ -25,7 +25,7 @@ use Rattle.target_law.proofs.Lists.{each_weaker, each_append, pairwise_append, n
 use Rattle.target_law.proofs.Places.{length-changed, numbered_changed, numbered_seen}
 use Rattle.target_law.proofs.Serving.{length-through, through_are, through_posts}
 use Rattle.violation_watch.proofs.Lists.{each_both}
-use Rattle.drive_script.specs.Open.{IsAskOf, IsLaneOf, IsOpen}
+use Rattle.drive_script.specs.Open.{IsAskOf, IsNextTo, IsLaneOf, IsOpen}
 use Rattle.drive_script.specs.Scripts.{begun, opened}
 use Rattle.drive_script.specs.Worlds.{LaneValue, WorldValue, oldest, younger, without_oldest, with_waiting, posted, oldest_ask, lane_ticked, lane_taking, world_serving, stepped}
 use Rattle.drive_script.proofs.Places.{oldest_in, each_younger}
@@ -37,6 +37,10 @@ length-posted lanes (p ∷ posts) = length-posted (changed_at p.to (with_waiting
 rising_younger : (asks : List Ask) → AreRising asks → AreRising (younger asks)
 rising_younger [] h = tt
 rising_younger (x ∷ asks) h = h.1
+
+pub next_of : {Inner Chan : Type 0} (rules : Rules Inner Chan) (place : ℕ) (posts : List Post) → Each (IsPostTo rules place) posts → IsNextTo rules place posts
+next_of rules place [] h = tt
+next_of rules place (p ∷ posts) h = h.0
 
 module _ {Inner Chan : Type 0} (rules : Rules Inner Chan) (owns : Owns Inner Chan) (laws : Laws rules owns) where
   tick_asks_of : (t c : ℕ) (core : CoreValue Inner) → t ≤ TOP → IsCoreOf rules owns c core → Each (IsAskOf rules c) (tick_of rules t core).1

@@ -1,8 +1,9 @@
 -- Worlds of a machine: each core and channel in its place, with its own asks and posts.
-use Rattle.std.specs.Prelude.{◌≡◌, ℕ, ◌<◌, ◌≤◌, length}
+use Rattle.std.specs.Prelude.{◌≡◌, ℕ, ◌<◌, ◌≤◌, List, [], ◌∷◌, length}
 use Rattle.std.specs.List.{AllByRecursion as Each}
 use Rattle.slack_base.specs.declared.bounds.TheConstants.{TOP}
 use Rattle.slack_base.specs.declared.messages.Ask.{Ask}
+use Rattle.slack_base.specs.declared.messages.Post.{Post}
 use Rattle.slack_base.specs.Messages.{id_of}
 use Rattle.target_law.specs.Numbered.{AllNumbered}
 use Rattle.target_law.specs.Proper.{IsProperAsk, IsPostTo, IsCoreOf, IsChanOf}
@@ -15,6 +16,11 @@ module _ {Inner Chan : Type 0} (rules : Rules Inner Chan) where
   pub record IsAskOf (place : ℕ) (ask : Ask) : Type 0 where
     pub proper : IsProperAsk rules ask
     pub core : (id_of ask).core ≡ place
+
+  -- the oldest of these posts, if there is any, is a proper one to the core of this number
+  abbrev pub IsNextTo : (place : ℕ) → List Post → Type 0
+  IsNextTo place [] = Unit {0}
+  IsNextTo place (p ∷ posts) = IsPostTo rules place p
 
   module _ (owns : Owns Inner Chan) where
     pub record IsLaneOf (end place : ℕ) (lane : LaneValue Inner) : Type 0 where

@@ -10,9 +10,8 @@ ghost use Rattle.drive_script.specs.Views.{lane_of, world_of};
 
 use crate::lanes::Lane;
 use crate::worlds::World;
-use slack_base::{AskList, ClashList, Drift, OutOfMemory, PostList, Row, SentList, TakenList};
+use slack_base::{AskList, ClashList, Drift, OutOfMemory, PostList, Row, SentList};
 use std::alloc::Global;
-use std::collections::VecDeque;
 use target_law::{State, Target};
 
 /// The world before the first step of an interleaving over so many cycles.
@@ -55,13 +54,7 @@ fn open_lanes<C: Send + Drop, T: Target<Core = C>>(
 {
     let mut lanes = Vec::with_capacity(alloc, target.cores() as usize)?;
     for core in cores.into_vec() {
-        lanes.push(Lane {
-            core,
-            clock,
-            asks: VecDeque::new(alloc),
-            posts: VecDeque::new(alloc),
-            taken: TakenList::new(alloc),
-        })?;
+        lanes.push(Lane::new(alloc, core, clock))?;
     }
     Ok(lanes)
 }

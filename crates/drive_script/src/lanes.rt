@@ -20,15 +20,32 @@ pub struct Lane<C: Drop> {
 }
 
 impl<C: Send + Drop> Lane<C> {
-    ghost use Rattle.std.specs.Prelude.{◌≡◌, ◌<◌, ◌≤◌, OnOk};
-    ghost use Rattle.std.specs.List.{AllByRecursion};
+    ghost use Rattle.std.specs.Prelude.{◌≡◌, ◌<◌, ◌≤◌, [], OnOk};
     ghost use Rattle.slack_base.specs.declared.bounds.TheConstants.{TOP};
-    ghost use Rattle.target_law.specs.Proper.{IsCore, IsPostTo};
+    ghost use Rattle.target_law.specs.Proper.{IsCore};
+    ghost use Rattle.drive_script.specs.Open.{IsNextTo};
     ghost use Rattle.drive_script.specs.Views.{lane_of};
     ghost use Rattle.drive_script.specs.Worlds.{lane_ticked, lane_taking};
 
+    /// A core at a clock, for which nothing waits. It takes no memory.
+    pub fn new(alloc: Global, core: C, clock: u64) -> Lane<C>
+        ensures core { result.core ≡ core }
+        ensures clock { result.clock ≡ clock }
+        ensures asks { result.asks.items ≡ [] }
+        ensures posts { result.posts.items ≡ [] }
+        ensures taken { result.taken ≡ [] }
+    {
+        Lane {
+            core,
+            clock,
+            asks: VecDeque::new(alloc),
+            posts: VecDeque::new(alloc),
+            taken: TakenList::new(alloc),
+        }
+    }
+
     /// A core below the end clock ticks at its clock, and its asks wait. `asks` is room for them.
-    pub(crate) fn tick<T: Target<Core = C>>(
+    pub fn tick<T: Target<Core = C>>(
         &mut self,
         target: &T,
         end: u64,
@@ -49,8 +66,8 @@ impl<C: Send + Drop> Lane<C> {
     }
 
     /// The core takes the oldest of the posts that wait for it, at its clock.
-    pub(crate) fn take<T: Target<Core = C>>(&mut self, target: &T) -> Result<(), OutOfMemory>
-        requires { AllByRecursion (IsPostTo (T.rules target.now) ((T.rules target.now).core_number (T.values.core self.old.core).inner)) self.old.posts.items }
+    pub fn take<T: Target<Core = C>>(&mut self, target: &T) -> Result<(), OutOfMemory>
+        requires { IsNextTo (T.rules target.now) ((T.rules target.now).core_number (T.values.core self.old.core).inner) self.old.posts.items }
         ensures { OnOk result (lane_of T.values self.new ≡ lane_taking (T.rules target.now) self.old.posts.items (lane_of T.values self.old)) }
     {
         let Some(post) = self.posts.pop_front() else {

@@ -10,6 +10,7 @@ pub mod runs;
 pub mod worlds;
 
 pub use drives::drive;
+pub use lanes::Lane;
 pub use runs::script_run;
 
 #[cfg(test)]

@@ -4,3 +4,4 @@ pub mod Supply
 pub mod Store
 pub mod Whole
 pub mod Tally
+pub mod Holds

@@ -1,6 +1,6 @@
 -- What a contract sees of the two ends of a ring whose sender keeps what the ring has no room for.
 use Rattle.std.specs.Prelude.{◌≡◌, ℕ, List, [], ◌∷◌, ◌++◌}
-use Rattle.rtrb.specs.Ring.{sent, received, known_free, known_items, SameProducer, SameConsumer, IsPair}
+use Rattle.rtrb.specs.Ring.{sent, received, known_free, known_items, consumer_capacity, SameProducer, SameConsumer, IsPair}
 use Rattle.stamp_queue.specs.declared.senders.Sender.{Sender}
 use Rattle.stamp_queue.specs.declared.receivers.Receiver.{Receiver}
 
@@ -28,6 +28,10 @@ module _ {X : Type 0} where
   -- the items in the ring that the receiver knows of, oldest first
   abbrev pub known : Receiver X → List X
   known r = known_items r.consumer
+
+  -- how many slots the ring has
+  abbrev pub slot_count : Receiver X → ℕ
+  slot_count r = consumer_capacity r.consumer
 
   -- the same end of the same ring, earlier and later
   abbrev pub SameSender : Sender X → Sender X → Type 0

@@ -10,7 +10,14 @@ pub struct Receiver<X: Drop> {
 impl<X: Drop> Receiver<X> {
     ghost use Rattle.std.specs.Prelude.{◌≡◌, ◌<◌, [], ◌∷◌, ◌++◌, IfSome, IfNone};
     ghost use mathlib.Core.List.{IsPrefix};
-    ghost use Rattle.stamp_queue.specs.Rings.{all_received, known, SameReceiver};
+    ghost use Rattle.stamp_queue.specs.Rings.{all_received, known, slot_count, SameReceiver};
+
+    /// How many slots the ring has.
+    pub fn slots(&self) -> usize
+        ensures { result ≡ slot_count self.now }
+    {
+        self.consumer.capacity()
+    }
 
     /// The next item in order: none only where the receiver knows of no item. It takes no memory.
     pub fn receive(&mut self) -> Option<X>

@@ -4,6 +4,7 @@ use Rattle.target_law.specs.Proper.{IsPostTo}
 use Rattle.drive_script.specs.Open.{IsLaneOf}
 use Rattle.drive_script.specs.Views.{lane_of, world_of}
 use Rattle.drive_script.specs.Worlds.{LaneValue, lane_taking, stepped}
+use Rattle.drive_script.proofs.Opened.{next_of}
 use Rattle.drive_script.proofs.Places.{stored_past, numbered_stored, stored_changed}
 use Rattle.drive_script.proofs.worlds.World.take.Goals as goal
 
@@ -24,7 +25,8 @@ take-requires-after_bounds g c κs bounds =
     let lanes = c.args.self.now.lanes in
     let within : c.args.place < length lanes.items = omega (arith, lanes.ok.0, c.len.ensures, c.if-place-len.false) in
     let is = numbered_stored (lane_of g.T.Target.values) c.args.place lanes.items c.index_mut.result.now within c.index_mut.ensures.value (IsLaneOf rules owns c.args.self.now.end) c.requires.lanes in
-    subst (λ n. Each (IsPostTo rules n) c.index_mut.result.now.posts.items) (sym is.core.number) is.posts
+    next_of rules (rules.core_number (g.T.Target.values.core c.index_mut.result.now.core).inner) c.index_mut.result.now.posts.items
+    (subst (λ n. Each (IsPostTo rules n) c.index_mut.result.now.posts.items) (sym is.core.number) is.posts)
 
 pub returns : goal.returns
 unfolding stepped
