@@ -1,5 +1,5 @@
 -- The machine and the notes at the end of a run.
-use Rattle.std.specs.Prelude.{◌≡◌, ℕ, List, [], IsTrue}
+use Rattle.std.specs.Prelude.{◌≡◌, ℕ, List, [], All, IsTrue}
 use Rattle.slack_base.specs.declared.images.Image.{Image}
 use Rattle.slack_base.specs.declared.configs.RawConfig.{RawConfig}
 use Rattle.slack_base.specs.declared.notes.Interval.{Interval}
@@ -14,7 +14,8 @@ use Rattle.target_law.specs.Stops.{Stops}
 use Rattle.lockstep_model.specs.Rules.{rules_of}
 use Rattle.lockstep_model.specs.Start.{start_of}
 use Rattle.sim_words.specs.declared.values.Mode.{Mode}
-use Rattle.sim_words.specs.declared.values.Mode.TheVariants.{Lockstep}
+use Rattle.sim_words.specs.declared.values.Mode.TheVariants.{Lockstep, Quantum}
+use Rattle.pacing.specs.Exact.{seen_of}
 use Rattle.image_run.specs.Modes.{is_exact, limit_in, step_in}
 
 -- the state is lockstep's, at the checkpoint where a run cycle by cycle stops
@@ -34,8 +35,10 @@ pub record IsLockstepEnd (config : RawConfig) (image : Image) (m : StateValue Ha
 -- a run of the image in this mode, by these steps if it is of a given interleaving, left these notes and this machine
 pub record IsRunEnd (config : RawConfig) (mode : Mode) (steps : List Step) (image : Image) (notes : List Interval) (m : StateValue HartValue ChannelValue) : Type 0 where
   -- it went from interval to interval, each as the mode allows
-  pub ends : Ends (rules_for config image) config.interval (limit_in mode config) (step_in (rules_for config image) mode steps) (start_of config image) notes m
+  pub ends : Ends (rules_for config image) config.interval (limit_in mode config) (step_in (rules_for config image) mode config steps) (start_of config image) notes m
   -- in an exact mode it ended as lockstep does
-  pub exact : IsTrue (is_exact mode) → IsLockstepEnd config image m
+  pub exact : IsTrue (is_exact mode config) → IsLockstepEnd config image m
   -- cycle by cycle there is nothing to note
   pub silent : mode ≡ Lockstep → notes ≡ []
+  -- in quantum mode, where it is exact, the monitors record nothing
+  pub quiet : mode ≡ Quantum → IsTrue (is_exact mode config) → All (λ note. seen_of note ≡ []) notes

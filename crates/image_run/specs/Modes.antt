@@ -1,29 +1,33 @@
 -- How a run goes in each mode.
-use Rattle.std.specs.Prelude.{ℕ, Bool, true, false, List, min}
+use Rattle.std.specs.Prelude.{ℕ, Bool, true, false, List, min, nat_le}
 use Rattle.slack_base.specs.declared.configs.RawConfig.{RawConfig}
 use Rattle.slack_base.specs.declared.steps.Step.{Step as GivenStep}
+use Rattle.bus_model.specs.Laws.{lookahead_of}
+use Rattle.bus_model.specs.Settings.{delays_of}
 use Rattle.sim_words.specs.declared.values.Mode.{Mode}
 use Rattle.sim_words.specs.declared.values.Mode.TheVariants.{Lockstep, Quantum, Bounded, Speculative, Script}
 use Rattle.target_law.specs.Rules.{Rules}
 use Rattle.target_law.specs.Runs.{Step, IsExact}
 use Rattle.violation_watch.specs.BoundedNotes.{IsBoundedBy}
 use Rattle.drive_script.specs.Scripts.{IsScriptOf}
+use Rattle.pacing.specs.Pieces.{IsPieces}
 
 -- the modes that are there
 abbrev pub is_built : Mode → Bool
 is_built Lockstep = true
-is_built Quantum = false
+is_built Quantum = true
 is_built Bounded = false
 is_built Speculative = false
 is_built Script = true
 
--- the modes whose runs end as lockstep does
-abbrev pub is_exact : Mode → Bool
-is_exact Lockstep = true
-is_exact Quantum = false
-is_exact Bounded = false
-is_exact Speculative = false
-is_exact Script = false
+-- the modes whose runs end as lockstep does; quantum mode is one where a piece is no longer than the least time from an ask
+-- to its post
+abbrev pub is_exact : Mode → RawConfig → Bool
+is_exact Lockstep config = true
+is_exact Quantum config = nat_le config.quantum (lookahead_of (delays_of config))
+is_exact Bounded config = false
+is_exact Speculative config = false
+is_exact Script config = false
 
 -- the cycle that a run doesn't pass: a given interleaving is of one interval
 abbrev pub limit_in : Mode → RawConfig → ℕ
@@ -34,9 +38,9 @@ limit_in Speculative config = config.limit
 limit_in Script config = min config.interval config.limit
 
 -- what an interval may do; in a mode that isn't there, nothing
-abbrev pub step_in : {Inner Chan : Type 0} → (rules : Rules Inner Chan) → Mode → List GivenStep → Step rules
-step_in rules Lockstep steps = IsExact rules
-step_in rules Quantum steps = λ notes k s added e. ⊥
-step_in rules Bounded steps = λ notes k s added e. ⊥
-step_in rules Speculative steps = λ notes k s added e. ⊥
-step_in rules Script steps = IsBoundedBy rules (IsScriptOf rules steps)
+abbrev pub step_in : {Inner Chan : Type 0} → (rules : Rules Inner Chan) → Mode → RawConfig → List GivenStep → Step rules
+step_in rules Lockstep config steps = IsExact rules
+step_in rules Quantum config steps = IsBoundedBy rules (IsPieces rules config.quantum)
+step_in rules Bounded config steps = λ notes k s added e. ⊥
+step_in rules Speculative config steps = λ notes k s added e. ⊥
+step_in rules Script config steps = IsBoundedBy rules (IsScriptOf rules steps)

@@ -1,31 +1,38 @@
 //! A run in each of the modes, of any machine.
-ghost use Rattle.std.specs.Prelude.{◌≡◌, ◌+◌, ◌-◌, ◌<◌, ◌≤◌, [], IfOk, IsTrue, sum_by};
+ghost use Rattle.std.specs.Prelude.{◌≡◌, ◌+◌, ◌-◌, ◌<◌, ◌≤◌, [], All, IfOk, IsTrue, sum_by};
 ghost use Rattle.slack_base.specs.declared.bounds.TheConstants.{TOP};
 ghost use Rattle.slack_base.specs.Numbers.{numbers_of};
-ghost use Rattle.target_law.specs.Proper.{IsProper};
+ghost use Rattle.bus_model.specs.Laws.{lookahead_of};
+ghost use Rattle.bus_model.specs.Settings.{delays_of};
+ghost use Rattle.target_law.specs.Proper.{IsProper, IsPunctual};
 ghost use Rattle.target_law.specs.Runs.{Ends, IsExact, IsExactEnd};
 ghost use Rattle.target_law.specs.Views.{state_of};
 ghost use Rattle.violation_watch.specs.BoundedNotes.{IsBoundedBy};
 ghost use Rattle.drive_script.specs.Scripts.{IsScriptOf};
+ghost use Rattle.pacing.specs.Exact.{IsExactIfShort, seen_of};
+ghost use Rattle.pacing.specs.Pieces.{IsPieces};
 ghost use Rattle.image_run.specs.Ends.{IsLockstepAt};
 ghost use Rattle.image_run.specs.Modes.{is_built, is_exact, limit_in, step_in};
 ghost use Rattle.image_run.specs.Ticks.{cycles_of};
 
 use drive_script::script_run;
+use pacing::quantum_run;
 use sim_words::Mode;
 use slack_base::{Config, NoteList, OutOfMemory, StepList};
 use std::alloc::Global;
+use std::thread::Threads;
 use target_law::{Bounded, State, Target, run};
 
 /// Whether the mode is there.
 pub fn is_built(mode: Mode) -> bool
     ensures { result ≡ is_built mode }
 {
-    matches!(mode, Mode::Lockstep | Mode::Script)
+    matches!(mode, Mode::Lockstep | Mode::Quantum | Mode::Script)
 }
 
 /// A run from clock 0 in a mode that is there, by these steps if it is of a given interleaving.
-pub fn run_in_mode<T: Target>(
+pub fn run_in_mode<R: Threads + Sync, T: Target + Sync>(
+    rt: &R,
     alloc: Global,
     target: &T,
     state: State<T>,
@@ -35,10 +42,13 @@ pub fn run_in_mode<T: Target>(
 ) -> Result<Bounded<T>, OutOfMemory>
     requires mode { IsTrue (is_built mode) }
     requires begins { state.clock ≡ 0 }
+    requires lookahead { (T.rules target.now).lookahead ≡ lookahead_of (delays_of (numbers_of config.now)) }
     requires proper { IsProper (T.rules target.now) (T.owns target.now) (state_of T.values state) }
-    ensures ends { IfOk result (λ r. Ends (T.rules target.now) config.now.interval (limit_in mode (numbers_of config.now)) (step_in (T.rules target.now) mode steps.now) (state_of T.values state) r.notes (state_of T.values r.end)) }
-    ensures exact { IfOk result (λ r. IsTrue (is_exact mode) → IsLockstepAt (T.rules target.now) config.now.interval config.now.limit (state_of T.values state) (state_of T.values r.end)) }
+    requires punctual { IsPunctual (state_of T.values state) }
+    ensures ends { IfOk result (λ r. Ends (T.rules target.now) config.now.interval (limit_in mode (numbers_of config.now)) (step_in (T.rules target.now) mode (numbers_of config.now) steps.now) (state_of T.values state) r.notes (state_of T.values r.end)) }
+    ensures exact { IfOk result (λ r. IsTrue (is_exact mode (numbers_of config.now)) → IsLockstepAt (T.rules target.now) config.now.interval config.now.limit (state_of T.values state) (state_of T.values r.end)) }
     ensures silent { IfOk result (λ r. mode ≡ Mode.Lockstep → r.notes ≡ []) }
+    ensures quiet { IfOk result (λ r. mode ≡ Mode.Quantum → IsTrue (is_exact mode (numbers_of config.now)) → All (λ note. seen_of note ≡ []) r.notes) }
     ensures few { IfOk result (λ r. sum_by cycles_of r.notes ≤ config.now.limit) }
     ensures proper { IfOk result (λ r. IsProper (T.rules target.now) (T.owns target.now) (state_of T.values r.end)) }
 {
@@ -46,8 +56,17 @@ pub fn run_in_mode<T: Target>(
     let limit = u64::from(config.limit);
     match mode {
         Mode::Lockstep => run_cycle_by_cycle(alloc, target, state, interval, limit),
+        Mode::Quantum => run_quantum(
+            rt,
+            alloc,
+            target,
+            state,
+            interval,
+            limit,
+            u64::from(config.quantum),
+        ),
         Mode::Script => run_script(alloc, target, state, interval, interval.min(limit), steps),
-        Mode::Quantum | Mode::Bounded | Mode::Speculative => unreachable!(),
+        Mode::Bounded | Mode::Speculative => unreachable!(),
     }
 }
 
@@ -72,6 +91,29 @@ pub fn run_cycle_by_cycle<T: Target>(
         end: state,
         notes: NoteList::new(alloc),
     })
+}
+
+/// A run in pieces of `quantum` cycles.
+pub fn run_quantum<R: Threads + Sync, T: Target + Sync>(
+    rt: &R,
+    alloc: Global,
+    target: &T,
+    state: State<T>,
+    interval: u64,
+    limit: u64,
+    quantum: u64,
+) -> Result<Bounded<T>, OutOfMemory>
+    requires begins { state.clock ≤ limit }
+    requires top { limit ≤ TOP }
+    requires interval { 1 ≤ interval }
+    requires quantum { 1 ≤ quantum }
+    requires proper { IsProper (T.rules target.now) (T.owns target.now) (state_of T.values state) }
+    ensures ends { IfOk result (λ r. Ends (T.rules target.now) interval limit (IsBoundedBy (T.rules target.now) (IsPieces (T.rules target.now) quantum)) (state_of T.values state) r.notes (state_of T.values r.end)) }
+    ensures exact { IfOk result (λ r. IsExactIfShort (T.rules target.now) interval limit quantum (state_of T.values state) r.notes (state_of T.values r.end)) }
+    ensures few { IfOk result (λ r. sum_by cycles_of r.notes ≤ limit) }
+    ensures proper { IfOk result (λ r. IsProper (T.rules target.now) (T.owns target.now) (state_of T.values r.end)) }
+{
+    quantum_run(rt, alloc, target, state, interval, limit, quantum)
 }
 
 /// A run in a given interleaving, which is of one interval.

@@ -15,6 +15,7 @@ use lockstep_model::{Machine, RvTarget, start};
 use sim_words::Mode;
 use slack_base::{Config, Image, NoteList, OutOfMemory, StepList};
 use std::alloc::Global;
+use std::thread::Threads;
 use target_law::Bounded;
 
 /// What a run left: the machine at its end, the notes of its intervals, and the ticks that its cores made in drifts and in
@@ -29,7 +30,8 @@ pub struct Ran {
 
 /// Runs an image in a mode that is there, by these steps if it is of a given interleaving, to the checkpoint where the run
 /// stops.
-pub fn run_image(
+pub fn run_image<R: Threads + Sync>(
+    rt: &R,
     alloc: Global,
     config: &Config,
     mode: Mode,
@@ -45,7 +47,7 @@ pub fn run_image(
 {
     let target = RvTarget::make(alloc, *config, image)?;
     let machine = start(alloc, &target, image)?;
-    let Bounded { end, notes } = run_in_mode(alloc, &target, machine, config, mode, steps)?;
+    let Bounded { end, notes } = run_in_mode(rt, alloc, &target, machine, config, mode, steps)?;
     let drift_ticks = drift_ticks(config.cores, &notes);
     let replay_ticks = replay_ticks(config.cores, &notes);
     Ok(Ran {

@@ -25,6 +25,7 @@ use sim_words::{Command, Order};
 use slack_base::{ByteList, Config, CoreEnd, Image, OutOfMemory};
 use stat_report::listing;
 use std::alloc::Global;
+use std::thread::Threads;
 use timed_core::TimedCore;
 use workload_gen::program;
 
@@ -47,7 +48,12 @@ impl From<OutOfMemory> for Answer {
 }
 
 /// What the command of an order makes of its input, or the answer for an input that has a fault.
-pub fn output_of(alloc: Global, order: &Order, input: &[u8]) -> Result<Output, Answer>
+pub fn output_of<R: Threads + Sync>(
+    rt: &R,
+    alloc: Global,
+    order: &Order,
+    input: &[u8],
+) -> Result<Output, Answer>
     requires mode { IsTrue (is_built order.now.mode) }
     requires short { length input.now < 2 ^ 32 }
     requires room { order.now.command ≡ Command.Gen → GENERATED_MEMORY ≤ order.now.config.memory }
@@ -58,15 +64,20 @@ pub fn output_of(alloc: Global, order: &Order, input: &[u8]) -> Result<Output, A
     ensures refused { IfErr result (IsRefusedBy (refusal_by order.now.command (numbers_of order.now.config) input.now)) }
 {
     match order.command {
-        Command::Run => run_output(alloc, order, input),
-        Command::Gen => Ok(gen_output(alloc, order)?),
+        Command::Run => run_output(rt, alloc, order, input),
+        Command::Gen => Ok(gen_output(rt, alloc, order)?),
         Command::Asm => asm_output(alloc, order, input),
         Command::List => list_output(alloc, order, input),
     }
 }
 
 /// `run`: the image that the input gives is run.
-fn run_output(alloc: Global, order: &Order, input: &[u8]) -> Result<Output, Answer>
+fn run_output<R: Threads + Sync>(
+    rt: &R,
+    alloc: Global,
+    order: &Order,
+    input: &[u8],
+) -> Result<Output, Answer>
     requires { IsTrue (is_built order.now.mode) }
     ensures output { IfOk result (λ out. IsRunOutput (order_value order.now) input.now (run_value out.run) out.text) }
     ensures answer { IfOk result (λ out. out.answer ≡ answer_at (run_value out.run).end) }
@@ -75,13 +86,17 @@ fn run_output(alloc: Global, order: &Order, input: &[u8]) -> Result<Output, Answ
     ensures refused { IfErr result (IsRefusedBy (image_refusal (image_told (numbers_of order.now.config) input.now))) }
 {
     let image = image_in(alloc, &order.config, input)?;
-    let ran = run_by(alloc, order, &image)?;
+    let ran = run_by(rt, alloc, order, &image)?;
     let text = text_of_run(alloc, order, &ran)?;
     Ok(ended(text, ran))
 }
 
 /// `gen`: the program of the seed is run.
-fn gen_output(alloc: Global, order: &Order) -> Result<Output, OutOfMemory>
+fn gen_output<R: Threads + Sync>(
+    rt: &R,
+    alloc: Global,
+    order: &Order,
+) -> Result<Output, OutOfMemory>
     requires mode { IsTrue (is_built order.now.mode) }
     requires room { GENERATED_MEMORY ≤ order.now.config.memory }
     ensures output { IfOk result (λ out. IsGenOutput (order_value order.now) (run_value out.run) out.text) }
@@ -89,7 +104,7 @@ fn gen_output(alloc: Global, order: &Order) -> Result<Output, OutOfMemory>
     ensures whole { IfOk result (λ out. IsWhole out.answer) }
 {
     let image = program(alloc, order.seed, &order.config)?;
-    let ran = run_by(alloc, order, &image)?;
+    let ran = run_by(rt, alloc, order, &image)?;
     let text = text_of_gen(alloc, order, &ran)?;
     Ok(ended(text, ran))
 }

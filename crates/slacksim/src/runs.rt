@@ -13,9 +13,15 @@ use image_run::{Ran, run_image};
 use sim_words::Order;
 use slack_base::{Image, OutOfMemory};
 use std::alloc::Global;
+use std::thread::Threads;
 
 /// The run of an image by an order, to the checkpoint where it stops.
-pub fn run_by(alloc: Global, order: &Order, image: &Image) -> Result<Ran, OutOfMemory>
+pub fn run_by<R: Threads + Sync>(
+    rt: &R,
+    alloc: Global,
+    order: &Order,
+    image: &Image,
+) -> Result<Ran, OutOfMemory>
     requires image { Fits order.now.config.base order.now.config.memory image.now }
     requires mode { IsTrue (is_built order.now.mode) }
     ensures run { IfOk result (λ r. IsRun (order_value order.now) image.now r.notes (machine_of r.machine)) }
@@ -24,6 +30,6 @@ pub fn run_by(alloc: Global, order: &Order, image: &Image) -> Result<Ran, OutOfM
     ensures cores { IfOk result (λ r. length r.machine.cores ≤ MOST_CORES) }
     ensures lines { IfOk result (λ r. order.now.config.base + 16 * lines_in r.machine.chans ≤ 2 ^ 32) }
 {
-    let ran = run_image(alloc, &order.config, order.mode, &order.steps, image)?;
+    let ran = run_image(rt, alloc, &order.config, order.mode, &order.steps, image)?;
     Ok(ran)
 }

@@ -22,10 +22,10 @@ use std::thread::Threads;
 
 /// Carries out the command that the words give over the bytes of the source, and writes its text to the sink.
 ///
-/// `run` runs an image and `gen` a generated program, cycle by cycle or in a given interleaving; `asm` assembles a text,
-/// and `list` lists an image.
+/// `run` runs an image and `gen` a generated program, in one of the modes that are there; `asm` assembles a text, and `list`
+/// lists an image.
 pub fn simulate<R: Threads + Sync, S: Source, W: Sink, G: Gate + Sync>(
-    _rt: &R,
+    rt: &R,
     alloc: Global,
     words: &[Arg],
     source: &mut S,
@@ -76,7 +76,7 @@ pub fn simulate<R: Threads + Sync, S: Source, W: Sink, G: Gate + Sync>(
         Ok(input) => input,
         Err(answer) => return refused(alloc, answer),
     };
-    match output_of(alloc, &order, input.as_slice()) {
+    match output_of(rt, alloc, &order, input.as_slice()) {
         Ok(output) => write_output(alloc, output, sink),
         Err(answer) => refused(alloc, answer),
     }

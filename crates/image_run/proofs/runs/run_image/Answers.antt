@@ -15,14 +15,14 @@ use Rattle.image_run.proofs.Moved.{moved, lockstep_from_zero}
 use Rattle.image_run.proofs.runs.run_image.Goals as goal
 
 pub replay_ticks-replay_ticks-requires-clause-sum : goal.replay_ticks-replay_ticks-requires-clause-sum
-replay_ticks-replay_ticks-requires-clause-sum c =
+replay_ticks-replay_ticks-requires-clause-sum g c =
     let notes = c.in_ok-end.field-0.notes in
     let few : sum_by cycles_of notes ≤ c.args.config.now.limit = c.in_ok-end.ensures.few in
     let limit = c.args.config.now.limit_in_bounds in
     omega (arith, few, limit, replayed_within notes)
 
 pub replay_ticks-replay_ticks-requires-clause-product : goal.replay_ticks-replay_ticks-requires-clause-product
-replay_ticks-replay_ticks-requires-clause-product c =
+replay_ticks-replay_ticks-requires-clause-product g c =
     let notes = c.in_ok-end.field-0.notes in
     let few : sum_by cycles_of notes ≤ c.args.config.now.limit = c.in_ok-end.ensures.few in
     let limit = c.args.config.now.limit_in_bounds in
@@ -30,7 +30,7 @@ replay_ticks-replay_ticks-requires-clause-product c =
     product_within c.args.config.now.cores (sum_by replayed_of notes) (omega (arith, cores)) (omega (arith, few, limit, replayed_within notes))
 
 pub returns-clause-end : goal.returns-clause-end
-returns-clause-end c =
+returns-clause-end g c =
     let config = numbers_of c.args.config.now in
     let mode = c.args.mode in
     let steps = c.args.steps.now in
@@ -46,11 +46,12 @@ returns-clause-end c =
     machine_is before ∙ c.in_ok-machine.ensures.state ∙ ap (λ k. start_of (numbers_of k) image) made.config in
     let ran = c.in_ok-end.ensures in
     record {
-      ends = moved (λ R s e. Ends R config.interval (limit_in mode config) (step_in R mode steps) s notes e)
+      ends = moved (λ R s e. Ends R config.interval (limit_in mode config) (step_in R mode config steps) s notes e)
           _ _ _ _ _ _ same_rules same_state (machine_is after) ran.ends;
       exact = λ is.
           let at : IsLockstepAt (rules_for config image) config.interval config.limit (start_of config image) (machine_of after) =
           moved (λ R s e. IsLockstepAt R config.interval config.limit s e) _ _ _ _ _ _ same_rules same_state (machine_is after) (ran.exact is) in
           record { state = lockstep_from_zero (rules_for config image) (start_of config image) (machine_of after) refl at.state; stops = at.stops };
       silent = ran.silent;
+      quiet = ran.quiet;
     }

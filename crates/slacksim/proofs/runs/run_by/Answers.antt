@@ -6,7 +6,7 @@ use Rattle.slacksim.proofs.Lines.{lines_within}
 use Rattle.slacksim.proofs.runs.run_by.Goals as goal
 
 pub returns-clause-lines : goal.returns-clause-lines
-returns-clause-lines c =
+returns-clause-lines g c =
     let config = numbers_of c.args.order.now.config in
     let chans = c.in_ok-ran.ran.machine.chans in
     let few : lines_in chans ≤ lines_of config = lines_within config (code_of c.args.image.now config) chans c.in_ok-ran.ensures.proper.chans in

@@ -1,0 +1,18 @@
+use Rattle.std.proofs.Common.{◌≡◌, ◌≤◌, sum_by}
+use Rattle.std.proofs.lemmas.Result.{IfOk-weaker}
+use Rattle.target_law.specs.Runs.{Ends}
+use Rattle.target_law.specs.Views.{state_of}
+use Rattle.violation_watch.specs.BoundedNotes.{IsBoundedBy}
+use Rattle.pacing.specs.Pieces.{IsPieces}
+use Rattle.image_run.specs.Ticks.{cycles_of}
+use Rattle.image_run.proofs.Intervals.{cycles_within}
+use Rattle.image_run.proofs.modes.run_quantum.Goals as goal
+
+pub returns-clause-few : goal.returns-clause-few
+returns-clause-few g c =
+    let rules = g.T.Target.rules c.args.target.now in
+    let values = g.T.Target.values in
+    let kind = IsPieces rules c.args.quantum in
+    let s = state_of values c.args.state in
+    IfOk-weaker _ (λ r. Ends rules c.args.interval c.args.limit (IsBoundedBy rules kind) s r.notes (state_of values r.end)) (λ r. sum_by cycles_of r.notes ≤ c.args.limit)
+    (λ r is. cycles_within rules kind c.args.interval c.args.limit s is) c.quantum_run.ensures.runs
