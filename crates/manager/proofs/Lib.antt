@@ -4,3 +4,4 @@ pub mod Queues
 pub mod Leading
 pub mod OneServed
 pub mod Ending
+pub mod Opened

@@ -1,6 +1,7 @@
 //! The manager of a drift by threads: it owns the channels, serves the asks of the cores, and raises global time.
 #![tactic(auto)]
 
+pub mod laws;
 pub mod legs;
 pub mod managers;
 pub mod picking;

@@ -38,11 +38,7 @@ impl<D: Send + Drop> Manager<D> {
     }
 
     /// Serves the oldest ask that waits at the desk of a place, and sends its posts.
-    fn serve_at<T: Target<Chan = D>>(
-        &mut self,
-        target: &T,
-        place: usize,
-    ) -> Result<(), OutOfMemory>
+    fn serve_at<T: Target<Chan = D>>(&mut self, target: &T, place: usize) -> Result<(), OutOfMemory>
         requires ready { IsReadyManager (T.rules target.now) (T.owns target.now) T.values self.old }
         requires servable { (i : Id) × (next_id (T.rules target.now) (queues_of self.old.desks.items) place ≡ Some i) }
         ensures led { OnOk result (Led (T.rules target.now) (T.owns target.now) T.values self.old self.new) }
@@ -58,10 +54,7 @@ impl<D: Send + Drop> Manager<D> {
     }
 
     /// Serves the asks that wait, the least id first, until no desk's oldest ask may be served.
-    pub(crate) fn serve_all<T: Target<Chan = D>>(
-        &mut self,
-        target: &T,
-    ) -> Result<(), OutOfMemory>
+    pub(crate) fn serve_all<T: Target<Chan = D>>(&mut self, target: &T) -> Result<(), OutOfMemory>
         requires { IsReadyManager (T.rules target.now) (T.owns target.now) T.values self.old }
         ensures led { OnOk result (Led (T.rules target.now) (T.owns target.now) T.values self.old self.new) }
         ensures order { OnOk result ((asks : List Ask) × (self.new.served ≡ self.old.served ++ asks) × ServesAll (T.rules target.now) (queues_of self.old.desks.items) asks (queues_of self.new.desks.items)) }

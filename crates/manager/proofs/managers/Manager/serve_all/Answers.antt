@@ -35,7 +35,7 @@ loop-place-preserved g c =
         h.order.0 ++ takes.ask ∷ [],
         takes.served ∙ ap (λ xs. xs ++ takes.ask ∷ []) h.order.1 ∙ append_assoc a.served h.order.0 (takes.ask ∷ []),
         subst (λ queues. LeadsFrom rules (queues_of a.desks.items) (h.order.0 ++ takes.ask ∷ []) queues) (sym takes.queues)
-        (leads_more rules (queues_of a.desks.items) h.order.0 (queues_of c.loop-place.self.desks.items) c.in-Some.place next.0 takes.ask h.order.2 next.1 takes.oldest),
+            (leads_more rules (queues_of a.desks.items) h.order.0 (queues_of c.loop-place.self.desks.items) c.in-Some.place next.0 takes.ask h.order.2 next.1 takes.oldest),
       );
       overseer = done.overseer ∙ h.overseer;
     }
