@@ -9,3 +9,6 @@ pub mod serving;
 pub mod turns;
 
 pub use managers::{Desk, Manager};
+
+#[cfg(test)]
+mod tests;

@@ -1,0 +1,9 @@
+//! How a drift by threads is finished, once all ends of its rings are in one thread.
+#![tactic(auto)]
+
+pub mod gathers;
+pub mod parts;
+pub mod settles;
+
+pub use parts::Part;
+pub use settles::settle;

@@ -1,0 +1,56 @@
+//! Finishing of a drift by threads.
+ghost use Rattle.std.specs.Prelude.{◌≡◌, ◌+◌, ◌≤◌, ℕ, IfOk, length};
+ghost use Rattle.slack_base.specs.declared.bounds.TheConstants.{TOP};
+ghost use Rattle.target_law.specs.Cycles.{StateValue};
+ghost use Rattle.target_law.specs.Drifts.{IsDrift};
+ghost use Rattle.target_law.specs.Numbered.{AllNumbered};
+ghost use Rattle.target_law.specs.Proper.{IsProper};
+ghost use Rattle.drive_script.specs.Open.{IsOpen};
+ghost use Rattle.drive_script.specs.Scripts.{history, closed};
+ghost use Rattle.drive_script.specs.Views.{world_of};
+ghost use Rattle.manager.specs.Managers.{IsReadyManager};
+ghost use Rattle.manager.specs.Places.{PlacePairs};
+ghost use Rattle.settle.specs.Gathers.{AreLinked};
+ghost use Rattle.settle.specs.Parts.{IsReadyPart, AreUnderway};
+
+use crate::gathers::gather;
+use crate::parts::Part;
+use drive_script::finishing::finish;
+use drive_script::worlds::World;
+use manager::Manager;
+use slack_base::{AskList, OutOfMemory, PostList};
+use std::alloc::Global;
+use target_law::Target;
+
+/// Completes a drift by threads, over what its manager and its cores have come to: what is left in the rings waits at the
+/// cores, and then the drift is completed as every drift is.
+pub fn settle<C: Send + Drop, D: Send + Drop, T: Target<Core = C, Chan = D>>(
+    alloc: Global,
+    target: &T,
+    manager: Manager<D>,
+    parts: Vec<Part<C>>,
+    end: u64,
+) -> Result<World<C, D>, OutOfMemory>
+    requires top { end ≤ TOP }
+    requires manager { IsReadyManager (T.rules target.now) (T.owns target.now) T.values manager }
+    requires parts { AllNumbered (IsReadyPart (T.rules target.now) (T.owns target.now) T.values end) 0 parts.items }
+    requires ends { PlacePairs (λ c. AreLinked) manager.desks.items parts.items }
+    ensures end { IfOk result (λ w. w.end ≡ end) }
+    ensures open { IfOk result (λ w. IsOpen (T.rules target.now) (T.owns target.now) (world_of T.values w)) }
+    // From whatever state all of them came, the history is that of a drift from there to what the world is left as.
+    ensures drift { (s : StateValue T.Inner T.Channel) (k : ℕ) → end ≡ s.clock + k → IsProper (T.rules target.now) (T.owns target.now) s → AreUnderway (T.rules target.now) T.values s manager parts.items → IfOk result (λ w. IsDrift (T.rules target.now) s (history s.clock k (world_of T.values w)) (closed (T.rules target.now) (world_of T.values w))) }
+{
+    let (chans, desks, served, clashes, _watch) = manager.into_raw();
+    let lanes = gather(alloc, desks, parts)?;
+    let mut world = World {
+        end,
+        lanes,
+        chans,
+        served,
+        clashes,
+        asks: AskList::new(alloc),
+        posts: PostList::new(alloc),
+    };
+    finish(target, &mut world)?;
+    Ok(world)
+}
