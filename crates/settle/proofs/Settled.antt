@@ -1,5 +1,5 @@
 -- What is gathered is a world that is under way.
-use Rattle.std.proofs.Common.{◌≡◌, ◌∙◌, ℕ, ◌+◌, ◌<◌, ◌≤◌, List, [], ◌∷◌, ◌++◌, All, Some, map, length, slice_get, refl, sym, ap, subst, arith}
+use Rattle.std.proofs.Common.{◌≡◌, ◌∙◌, ℕ, ◌+◌, ◌<◌, ◌≤◌, List, [], ◌∷◌, ◌++◌, All, Option, Some, None, map, length, slice_get, refl, sym, ap, subst, arith}
 use Rattle.std.specs.List.{AllByRecursion as Each}
 use Rattle.std.proofs.lemmas.List.{length-map}
 use Rattle.std.proofs.lemmas.List.Elements.{recursion_from_All}
@@ -8,6 +8,9 @@ use Rattle.slack_base.specs.declared.bounds.TheConstants.{TOP}
 use Rattle.slack_base.specs.declared.histories.Taken.{Taken}
 use Rattle.slack_base.specs.declared.messages.Ask.{Ask}
 use Rattle.slack_base.specs.declared.messages.Post.{Post}
+use Rattle.slack_base.specs.declared.stamps.Id.{Id}
+use Rattle.slack_base.specs.declared.steps.Step.{Step}
+use Rattle.slack_base.specs.declared.steps.Step.TheVariants.{Tick, Serve, Take}
 use Rattle.slack_base.specs.Inboxes.{CoreValue}
 use Rattle.slack_base.specs.Messages.{id_of}
 use Rattle.stamp_queue.specs.Rings.{all_sent, all_received}
@@ -21,9 +24,11 @@ use Rattle.target_law.specs.Rules.{Rules, Owns}
 use Rattle.target_law.specs.Served.{AreRising, IsAbove}
 use Rattle.target_law.specs.Values.{Values}
 use Rattle.drive_script.specs.declared.lanes.Lane.{Lane}
+use Rattle.drive_script.specs.Finishing.{Finishes, done, goes}
 use Rattle.drive_script.specs.Open.{IsAskOf, IsLaneOf, IsOpen}
 use Rattle.drive_script.specs.Views.{lane_of}
-use Rattle.drive_script.specs.Worlds.{LaneValue, WorldValue}
+use Rattle.drive_script.specs.Worlds.{LaneValue, WorldValue, oldest_ask, stepped, world_serving}
+use Rattle.drive_script.proofs.Served.{world_path}
 use Rattle.drive_script.proofs.Underway.{IsLaneUnderway, IsUnderway}
 use Rattle.manager.specs.declared.managers.Desk.{Desk}
 use Rattle.manager.specs.declared.managers.Manager.{Manager}
@@ -133,3 +138,38 @@ module _ {Inner Chan : Type 0} (rules : Rules Inner Chan) (owns : Owns Inner Cha
             (length-map lanes (lane_of values) ∙ is.count ∙ went.cores.count)
             (λ i first lane first_at at. let same : 0 + i ≡ i = omega arith in subst (λ n. IsLaneUnderway rules s.clock m.served (through rules s.chans m.served).posts n first lane) (sym same) (underway_at i first lane first_at at));
       }
+
+  -- the same, as it is stored
+  module _ (m : Manager D) (parts : List (Part Core)) (lanes : List (Lane Core)) (end : ℕ) (ready : IsReadyManager rules owns values m) (own : AllNumbered (IsReadyPart rules owns values end) 0 parts) (count : length parts ≡ length m.desks.items)
+      (chans : List D) (desks : List Desk) (served : List Ask) (clashes : List (Option Id)) (chans_are : chans ≡ m.chans.items) (desks_are : desks ≡ m.desks.items) (served_are : served ≡ m.served) (clashes_are : clashes ≡ m.clashes)
+      (is : AreGathered desks parts lanes) where
+    abbrev pub stored_world : WorldValue Inner Chan
+    stored_world = record { end = end; lanes = map (lane_of values) lanes; chans = map values.chan chans; served = served; clashes = clashes }
+
+    gathered : AreGathered m.desks.items parts lanes
+    gathered = subst (λ ds. AreGathered ds parts lanes) desks_are is
+
+    same_world : stored_world ≡ world m parts lanes end ready own count gathered
+    same_world = world_path end refl (ap (map values.chan) chans_are) served_are clashes_are
+
+    pub stored_open : end ≤ TOP → IsOpen rules owns stored_world
+    stored_open top = subst (IsOpen rules owns) (sym same_world) (world_open m parts lanes end ready own count gathered top)
+
+    pub stored_underway : (s : StateValue Inner Chan) → AreUnderway rules values s m parts → IsUnderway rules s stored_world
+    stored_underway s went = subst (IsUnderway rules s) (sym same_world) (world_underway m parts lanes end ready own count gathered s went)
+
+-- finishing keeps the end clock
+module _ {Inner Chan : Type 0} (rules : Rules Inner Chan) where
+  end_serving : (c : ℕ) (o : Option Ask) (w : WorldValue Inner Chan) → (world_serving rules c o w).end ≡ w.end
+  end_serving c None w = refl
+  end_serving c (Some x) w = refl
+
+  end_stepped : (x : Step) (w : WorldValue Inner Chan) → (stepped rules x w).end ≡ w.end
+  unfolding stepped
+  end_stepped (Tick c) w = refl
+  end_stepped (Serve c) w = end_serving c (oldest_ask w.lanes c) w
+  end_stepped (Take c) w = refl
+
+  pub finishes_end : {w e : WorldValue Inner Chan} → Finishes rules w e → e.end ≡ w.end
+  finishes_end (done fin) = refl
+  finishes_end (goes {w = w} x next rest) = finishes_end rest ∙ end_stepped x w

@@ -1,0 +1,37 @@
+use Rattle.std.proofs.Common.{◌≡◌, ◌∙◌, List, map, sym, subst, ap, refl}
+use Rattle.drive_script.proofs.Ending.{finish_drifts}
+use Rattle.manager.specs.declared.managers.Desk.{Desk}
+use Rattle.manager.specs.Places.{PlacePairs}
+use Rattle.settle.specs.Gathers.{AreLinked, AreGathered}
+use Rattle.settle.proofs.Settled.{stored_world, stored_open, stored_underway, finishes_end}
+use Rattle.settle.proofs.settles.settle.Goals as goal
+
+pub gather-requires : goal.gather-requires
+gather-requires g c = subst (λ (ds : List Desk). PlacePairs (λ _. AreLinked) ds c.args.parts.items) (sym (ap (λ v. v.items) c.into_raw-chans.ensures.1)) c.requires.ends
+
+pub finish-requires-after_bounds : goal.finish-requires-after_bounds
+finish-requires-after_bounds g c κs bounds =
+    let t = c.args.target.now in
+    let raw = c.into_raw-chans in
+    stored_open (g.T.Target.rules t) (g.T.Target.owns t) g.T.Target.values c.args.manager c.args.parts.items c.in_ok-lanes.lanes.items c.args.end c.requires.manager c.requires.parts c.requires.ends.count
+    raw.result.0.items raw.result.1.items raw.result.2 raw.result.3 (ap (λ v. v.items) raw.ensures.0) (ap (λ v. v.items) raw.ensures.1) raw.ensures.2 raw.ensures.3 c.in_ok-lanes.ensures c.requires.top
+
+pub returns-clause-end : goal.returns-clause-end
+returns-clause-end g c = finishes_end (g.T.Target.rules c.args.target.now) c.in_ok-finish.ensures.world
+
+pub returns-clause-drift : goal.returns-clause-drift
+returns-clause-drift g c =
+    let t = c.args.target.now in
+    let rules = g.T.Target.rules t in
+    let owns = g.T.Target.owns t in
+    let values = g.T.Target.values in
+    let raw = c.into_raw-chans in
+    let m = c.args.manager in
+    let parts = c.args.parts.items in
+    let lanes = c.in_ok-lanes.lanes.items in
+    λ s k end proper went.
+    finish_drifts rules owns (g.met.T.Target.laws t) s k proper c.in_ok-finish.ensures.world end
+    (stored_open rules owns values m parts lanes c.args.end c.requires.manager c.requires.parts c.requires.ends.count
+    raw.result.0.items raw.result.1.items raw.result.2 raw.result.3 (ap (λ v. v.items) raw.ensures.0) (ap (λ v. v.items) raw.ensures.1) raw.ensures.2 raw.ensures.3 c.in_ok-lanes.ensures c.requires.top)
+    (stored_underway rules owns values m parts lanes c.args.end c.requires.manager c.requires.parts c.requires.ends.count
+    raw.result.0.items raw.result.1.items raw.result.2 raw.result.3 (ap (λ v. v.items) raw.ensures.0) (ap (λ v. v.items) raw.ensures.1) raw.ensures.2 raw.ensures.3 c.in_ok-lanes.ensures s went)
