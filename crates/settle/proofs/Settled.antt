@@ -35,6 +35,7 @@ use Rattle.manager.specs.declared.managers.Manager.{Manager}
 use Rattle.manager.specs.Managers.{IsReadyDesk, IsReadyManager}
 use Rattle.settle.specs.Gathers.{Gathered, AreGathered}
 use Rattle.settle.specs.Parts.{IsReadyPart, IsPartUnderway, AreUnderway}
+use Rattle.settle.specs.Settles.{gathered_world, FinishesFrom}
 use Rattle.settle.specs.declared.parts.Part.{Part}
 use Rattle.settle.proofs.Lists.{get_in, get_map, each_last, pairwise_last, numbered_at, numbered_of, along_of}
 
@@ -84,7 +85,7 @@ module _ {Inner Chan : Type 0} (rules : Rules Inner Chan) (owns : Owns Inner Cha
   module _ (m : Manager D) (parts : List (Part Core)) (lanes : List (Lane Core)) (end : ℕ) (ready : IsReadyManager rules owns values m) (own : AllNumbered (IsReadyPart rules owns values end) 0 parts)
       (count : length parts ≡ length m.desks.items) (is : AreGathered m.desks.items parts lanes) where
     abbrev pub world : WorldValue Inner Chan
-    world = record { end = end; lanes = map (lane_of values) lanes; chans = map values.chan m.chans.items; served = m.served; clashes = m.clashes }
+    world = gathered_world values end m lanes
 
     -- of whom a lane is
     record IsAt (i : ℕ) (lane : Lane Core) : Type 0 where
@@ -154,6 +155,9 @@ module _ {Inner Chan : Type 0} (rules : Rules Inner Chan) (owns : Owns Inner Cha
 
     pub stored_open : end ≤ TOP → IsOpen rules owns stored_world
     stored_open top = subst (IsOpen rules owns) (sym same_world) (world_open m parts lanes end ready own count gathered top)
+
+    pub stored_finishes : (e : WorldValue Inner Chan) → Finishes rules stored_world e → FinishesFrom rules values end m parts e
+    stored_finishes e f = record { lanes = lanes; gathered = gathered; finishes = subst (λ w. Finishes rules w e) same_world f }
 
     pub stored_underway : (s : StateValue Inner Chan) → AreUnderway rules values s m parts → IsUnderway rules s stored_world
     stored_underway s went = subst (IsUnderway rules s) (sym same_world) (world_underway m parts lanes end ready own count gathered s went)

@@ -12,6 +12,7 @@ ghost use Rattle.manager.specs.Managers.{IsReadyManager};
 ghost use Rattle.manager.specs.Places.{PlacePairs};
 ghost use Rattle.settle.specs.Gathers.{AreLinked};
 ghost use Rattle.settle.specs.Parts.{IsReadyPart, AreUnderway};
+ghost use Rattle.settle.specs.Settles.{FinishesFrom};
 
 use crate::gathers::gather;
 use crate::parts::Part;
@@ -37,6 +38,8 @@ pub fn settle<C: Send + Drop, D: Send + Drop, T: Target<Core = C, Chan = D>>(
     requires ends { PlacePairs (λ c. AreLinked) manager.desks.items parts.items }
     ensures end { IfOk result (λ w. w.end ≡ end) }
     ensures open { IfOk result (λ w. IsOpen (T.rules target.now) (T.owns target.now) (world_of T.values w)) }
+    // What is gathered is led to it by finishing.
+    ensures finishes { IfOk result (λ w. FinishesFrom (T.rules target.now) T.values end manager parts.items (world_of T.values w)) }
     // From whatever state all of them came, the history is that of a drift from there to what the world is left as.
     ensures drift { (s : StateValue T.Inner T.Channel) (k : ℕ) → end ≡ s.clock + k → IsProper (T.rules target.now) (T.owns target.now) s → AreUnderway (T.rules target.now) T.values s manager parts.items → IfOk result (λ w. IsDrift (T.rules target.now) s (history s.clock k (world_of T.values w)) (closed (T.rules target.now) (world_of T.values w))) }
 {

@@ -3,7 +3,7 @@ use Rattle.drive_script.proofs.Ending.{finish_drifts}
 use Rattle.manager.specs.declared.managers.Desk.{Desk}
 use Rattle.manager.specs.Places.{PlacePairs}
 use Rattle.settle.specs.Gathers.{AreLinked, AreGathered}
-use Rattle.settle.proofs.Settled.{stored_world, stored_open, stored_underway, finishes_end}
+use Rattle.settle.proofs.Settled.{stored_open, stored_finishes, stored_underway, finishes_end}
 use Rattle.settle.proofs.settles.settle.Goals as goal
 
 pub gather-requires : goal.gather-requires
@@ -18,6 +18,13 @@ finish-requires-after_bounds g c κs bounds =
 
 pub returns-clause-end : goal.returns-clause-end
 returns-clause-end g c = finishes_end (g.T.Target.rules c.args.target.now) c.in_ok-finish.ensures.world
+
+pub returns-clause-finishes : goal.returns-clause-finishes
+returns-clause-finishes g c =
+    let t = c.args.target.now in
+    let raw = c.into_raw-chans in
+    stored_finishes (g.T.Target.rules t) (g.T.Target.owns t) g.T.Target.values c.args.manager c.args.parts.items c.in_ok-lanes.lanes.items c.args.end c.requires.manager c.requires.parts c.requires.ends.count
+    raw.result.0.items raw.result.1.items raw.result.2 raw.result.3 (ap (λ v. v.items) raw.ensures.0) (ap (λ v. v.items) raw.ensures.1) raw.ensures.2 raw.ensures.3 c.in_ok-lanes.ensures _ c.in_ok-finish.ensures.world
 
 pub returns-clause-drift : goal.returns-clause-drift
 returns-clause-drift g c =
