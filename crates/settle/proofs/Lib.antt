@@ -1,3 +1,4 @@
 pub mod Lists
 pub mod Gathering
 pub mod Settled
+pub mod Growing

@@ -4,6 +4,8 @@
 pub mod gathers;
 pub mod parts;
 pub mod settles;
+pub mod watching;
 
 pub use parts::Part;
 pub use settles::settle;
+pub use watching::{watch_served, watch_taken};
