@@ -1,4 +1,4 @@
 pub mod Lists
 pub mod Gathering
-pub mod Settled
+pub mod WorldOf
 pub mod Growing

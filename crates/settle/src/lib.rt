@@ -7,5 +7,5 @@ pub mod settles;
 pub mod watching;
 
 pub use parts::Part;
-pub use settles::settle;
+pub use settles::{Settled, settle};
 pub use watching::{watch_served, watch_taken};
