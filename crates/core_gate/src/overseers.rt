@@ -30,6 +30,13 @@ impl Overseer {
     ghost use Rattle.core_gate.specs.Steps.{IsLeast};
     ghost use Rattle.core_gate.specs.Seats.{cores_of, IsInStep, SameOverseer};
 
+    /// Global time, in cycles.
+    pub fn global(&self) -> u64
+        ensures { result ≡ self.now.global }
+    {
+        self.global
+    }
+
     /// Loads the clock of a core, which is in step with global time, and never below what an earlier look at it found. It
     /// takes no memory.
     pub fn look(&mut self, core: u32) -> u64

@@ -41,7 +41,7 @@ fn open_clock<C: Drop>(lane: &Lane<C>, end: u64) -> Option<u64>
 }
 
 /// The earlier of two ids with their places.
-fn earlier(best: Option<(usize, Id)>, place: usize, id: Option<Id>) -> Option<(usize, Id)>
+pub fn earlier(best: Option<(usize, Id)>, place: usize, id: Option<Id>) -> Option<(usize, Id)>
     ensures { result ≡ picked is_before best place id }
 {
     let Some(id) = id else {

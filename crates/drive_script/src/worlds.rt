@@ -1,5 +1,5 @@
 //! The world of a given interleaving, and its steps.
-ghost use Rattle.std.specs.Prelude.{◌≡◌, ◌<◌, ◌++◌, ◌∷◌, [], length, map, OnOk, All};
+ghost use Rattle.std.specs.Prelude.{◌≡◌, ◌<◌, ◌++◌, ◌∷◌, [], length, map, OnOk, IfOk, All};
 ghost use Rattle.target_law.specs.Cycles.{through};
 ghost use Rattle.target_law.specs.Numbered.{AllNumbered};
 ghost use Rattle.target_law.specs.Proper.{IsProperAsk, IsChanOf};
@@ -7,7 +7,7 @@ ghost use Rattle.drive_script.specs.Views.{lane_of};
 ghost use Rattle.drive_script.specs.Worlds.{oldest, younger, posted};
 
 use crate::lanes::Lane;
-use slack_base::{Ask, AskList, ClashList, OutOfMemory, Post, PostList, Step};
+use slack_base::{Ask, AskList, ClashList, Id, OutOfMemory, Post, PostList, Step};
 use std::collections::VecDeque;
 use target_law::Target;
 
@@ -115,33 +115,34 @@ impl<C: Send + Drop, D: Send + Drop> World<C, D> {
 }
 
 /// Takes the oldest ask out of a queue.
-fn next_ask(queue: &mut VecDeque<Ask>) -> Option<Ask>
+pub fn next_ask(queue: &mut VecDeque<Ask>) -> Option<Ask>
     ensures ask { result ≡ oldest queue.old.items }
     ensures queue { queue.new.items ≡ younger queue.old.items }
 {
     queue.pop_front()
 }
 
-/// Serves an ask on its channel. What it clashes with just before, and its posts, are appended.
+/// Serves an ask on its channel. What it clashes with just before is appended and handed back; its posts are appended.
 pub fn serve_ask<D: Send + Drop, T: Target<Chan = D>>(
     target: &T,
     chans: &mut Vec<D>,
     ask: &Ask,
     clashes: &mut ClashList,
     posts: &mut PostList,
-) -> Result<(), OutOfMemory>
+) -> Result<Option<Id>, OutOfMemory>
     requires count { length chans.old.items ≡ (T.rules target.now).channels }
     requires chans { AllNumbered (IsChanOf (T.rules target.now) (T.owns target.now)) 0 (map T.values.chan chans.old.items) }
     requires ask { IsProperAsk (T.rules target.now) ask.now }
     ensures chans { OnOk result (map T.values.chan chans.new.items ≡ (through (T.rules target.now) (map T.values.chan chans.old.items) (ask.now ∷ [])).chans) }
     ensures clashes { OnOk result (clashes.new ≡ clashes.old ++ (through (T.rules target.now) (map T.values.chan chans.old.items) (ask.now ∷ [])).clashes) }
+    ensures clash { IfOk result (λ clash. (through (T.rules target.now) (map T.values.chan chans.old.items) (ask.now ∷ [])).clashes ≡ clash ∷ []) }
     ensures posts { OnOk result (posts.new ≡ posts.old ++ (through (T.rules target.now) (map T.values.chan chans.old.items) (ask.now ∷ [])).posts) }
 {
     let number = target.channel_of(ask) as usize;
     let clash = target.clash(&chans[number], ask);
     clashes.push(clash)?;
     target.serve(&mut chans[number], ask, posts)?;
-    Ok(())
+    Ok(clash)
 }
 
 /// Posts wait, one after another, each for the core that it is addressed to.

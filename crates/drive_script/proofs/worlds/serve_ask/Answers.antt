@@ -55,6 +55,19 @@ returns-clause-clashes g c =
     ∙ ap (λ x. c.args.clashes.now ++ x ∷ [])
     (c.clash-clash.ensures ∙ sym (stored_seen view number chans c.index.result.now within c.index.ensures f None) ∙ ap (λ n. seen_at n f None (map view chans)) c.channel_of-number.ensures)
 
+pub returns-clause-clash : goal.returns-clause-clash
+returns-clause-clash g c =
+    let t = c.args.target.now in
+    let rules = g.T.Target.rules t in
+    let owns = g.T.Target.owns t in
+    let view = g.T.Target.values.chan in
+    let chans = c.args.chans.now.items in
+    let number = c.channel_of-number.result in
+    let within = channel_within rules owns (g.met.T.Target.laws t) number (length chans) c.args.ask.now c.channel_of-number.ensures c.requires.count c.requires.ask in
+    let f = λ (chan : g.T.Target.Channel). rules.clash chan c.args.ask.now in
+    ap (λ x. x ∷ [])
+    (sym (c.clash-clash.ensures ∙ sym (stored_seen view number chans c.index.result.now within c.index.ensures f None) ∙ ap (λ n. seen_at n f None (map view chans)) c.channel_of-number.ensures))
+
 pub returns-clause-posts : goal.returns-clause-posts
 returns-clause-posts g c =
     let t = c.args.target.now in

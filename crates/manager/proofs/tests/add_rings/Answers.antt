@@ -1,0 +1,20 @@
+use Rattle.std.proofs.Common.{◌≡◌, [], All, sym, subst}
+use Rattle.std.proofs.lemmas.List.Elements.{All-push}
+use Rattle.slack_base.specs.declared.messages.Ask.{Ask}
+use Rattle.slack_base.specs.declared.messages.Post.{Post}
+use Rattle.stamp_queue.specs.Rings.{all_sent, all_received}
+use Rattle.stamp_queue.specs.declared.receivers.Receiver.{Receiver}
+use Rattle.stamp_queue.specs.declared.senders.Sender.{Sender}
+use Rattle.manager.proofs.tests.add_rings.Goals as goal
+
+pub returns-clause-unused : goal.returns-clause-unused
+returns-clause-unused c =
+    let unused = c.requires.unused in
+    record {
+      receivers =
+          subst (All (λ (a : Receiver Ask). all_received a ≡ [])) (sym c.in_ok-push-2.ensures.ok)
+          (All-push (λ (a : Receiver Ask). all_received a ≡ []) c.args.receivers.now c.in_ok-sender.receiver unused.receivers c.in_ok-sender.ensures.receiver.0);
+      senders =
+          subst (All (λ (s : Sender Post). all_sent s ≡ [])) (sym c.in_ok-push-3.ensures.ok)
+          (All-push (λ (s : Sender Post). all_sent s ≡ []) c.args.senders.now c.in_ok-sender-2.sender unused.senders c.in_ok-sender-2.ensures.sender.0);
+    }
