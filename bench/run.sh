@@ -1,9 +1,9 @@
 #!/usr/bin/env bash
 # Times the built program on loops that never end, up to a limit of 10,000,000 cycles: in registers, with
 # multiplications and divisions, on lines of each core's own, and on lines that cores share. It prints simulated
-# core-cycles a second and the peak memory. Then it times posts through a ring, in one thread and across two, and cores
-# that advance through a clock table, in one thread and in threads of their own. It is a measurement and no test. First
-# it sees that each image is what its text assembles to.
+# core-cycles a second and the peak memory; then the same in pieces of some cycles. Then it times posts through a ring,
+# in one thread and across two, and cores that advance through a clock table, in one thread and in threads of their own.
+# It is a measurement and no test. First it sees that each image is what its text assembles to.
 set -eu
 top=$(cd "$(dirname "${BASH_SOURCE[0]}")/.." && pwd)
 
@@ -25,6 +25,19 @@ for loop in loop products private shared; do
         read -r seconds memory <<<"$(fastest "$loop" "$cores")"
         awk -v l="$loop" -v c="$cores" -v s="$seconds" -v m="$memory" -v t="$cycles" \
             'BEGIN { n = c * t; if (s == 0) s = 0.01; printf "%-10s %6d %12d %8.2f %15.0f %8d\n", l, c, n, s, n / s, m }'
+    done
+done
+
+# The same in quantum mode, four cores, in intervals of 100,000 cycles, up to a limit of 1,000,000.
+printf '%-10s %8s %12s %8s %15s %8s\n' loop quantum core-cycles seconds core-cycles/s peak-KB
+for loop in loop private shared; do
+    for quantum in 2 16 256 4095 4096 16384; do
+        read -r seconds memory <<<"$(for _ in 1 2 3; do
+            { /usr/bin/time -f '%e %M' "$top/slacksim" run --cores 4 --limit 1000000 --interval 100000 --mode quantum --quantum "$quantum" \
+                <"$top/bench/$loop.slk1" >/dev/null; } 2>&1 | tail -n 1
+        done | sort -n | head -n 1)"
+        awk -v l="$loop" -v q="$quantum" -v s="$seconds" -v m="$memory" \
+            'BEGIN { n = 4000000; if (s == 0) s = 0.01; printf "%-10s %8d %12d %8.2f %15.0f %8d\n", l, q, n, s, n / s, m }'
     done
 done
 

@@ -12,7 +12,7 @@ import struct
 import subprocess
 import sys
 
-from drifts import script
+from drifts import quantum, script
 from model import DEFAULTS, Machine
 
 PROGRAM = pathlib.Path(__file__).resolve().parent.parent / "slacksim"
@@ -128,12 +128,28 @@ def script_differs(rng, config, base, code, image):
     return True
 
 
+def quantum_differs(rng, config, base, code, image):
+    config = {**config, "interval": rng.choice([7, 100, 1000]), "limit": rng.choice([500, 1500])}
+    cycles = rng.choice([1, 2, 3, 5, 16, 64, 200])
+    machine = Machine(config, base, [(base, code)])
+    notes = quantum(machine, cycles)
+    words = ["--mode", "quantum", "--quantum", str(cycles), "--notes", "on"]
+    if output(config, image, *words) == machine.report() + notes.encode():
+        return False
+    print(" ".join(words))
+    return True
+
+
 def differs(rng):
     config = random_config(rng)
     base = config["base"]
     code = random_program(rng, base)
     image = b"SLK1" + struct.pack("<III", base, base, len(code)) + code
-    found = lockstep_differs(config, base, code, image) or script_differs(rng, config, base, code, image)
+    found = (
+        lockstep_differs(config, base, code, image)
+        or script_differs(rng, config, base, code, image)
+        or quantum_differs(rng, config, base, code, image)
+    )
     if found:
         print(f"differs: {config} {code.hex()}")
     return found

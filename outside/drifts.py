@@ -31,14 +31,30 @@ class World:
             self.taken[core].append((post, self.clocks[core]))
             self.machine.cores[core].put(post)
 
+    def piece(self, cycles):
+        """Every core ticks by itself; the asks are served in the order of their ids; their posts are taken at the end."""
+        for core in range(len(self.clocks)):
+            for _ in range(cycles):
+                self.tick(core)
+        while any(self.asks):
+            self.serve(self.oldest())
+        self.take_all()
+
+    def oldest(self):
+        """The core whose oldest ask has the least id."""
+        return min((asks[0]["id"], core) for core, asks in enumerate(self.asks) if asks)[1]
+
+    def take_all(self):
+        for core in range(len(self.posts)):
+            while self.posts[core]:
+                self.take(core)
+
     def finish(self):
         """All asks, the least id first; then all posts, core by core; then a tick of the first of the slowest; again."""
         while True:
             while any(self.asks):
-                self.serve(min((asks[0]["id"], core) for core, asks in enumerate(self.asks) if asks)[1])
-            for core in range(len(self.posts)):
-                while self.posts[core]:
-                    self.take(core)
+                self.serve(self.oldest())
+            self.take_all()
             if min(self.clocks) == self.end:
                 break
             self.tick(self.clocks.index(min(self.clocks)))
@@ -84,3 +100,18 @@ def script(machine, steps):
         {"t": world.tick, "s": world.serve, "p": world.take}[kind](core)
     world.finish()
     return note(0, cycles, world.violations()) + f"ticks drift {len(machine.cores) * cycles} replay 0\n"
+
+
+def quantum(machine, cycles_of_piece):
+    """A run of intervals in pieces of so many cycles; its notes."""
+    interval, limit, notes, number = machine.config["interval"], machine.config["limit"], "", 0
+    while True:
+        cycles = min(interval, limit - machine.clock)
+        world = World(machine, cycles)
+        for start in range(0, cycles, cycles_of_piece):
+            world.piece(min(cycles_of_piece, cycles - start))
+        machine.clock = world.end
+        notes += note(number, cycles, world.violations())
+        number += 1
+        if machine.clock == limit or all(core.end for core in machine.cores):
+            return notes + f"ticks drift {len(machine.cores) * machine.clock} replay 0\n"

@@ -13,11 +13,12 @@ use std::thread::Threads;
 mod bounds;
 mod calls;
 mod cycles;
+mod drifts;
 mod executables;
 mod failures;
 mod faults;
+mod pieces;
 mod programs;
-mod scripts;
 mod sharing;
 
 /// What a call answered, and what it wrote.

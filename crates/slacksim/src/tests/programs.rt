@@ -8,7 +8,7 @@ const ALL_ZERO: Answer = Answer::Done { all_zero: true };
 const NOT_ALL_ZERO: Answer = Answer::Done { all_zero: false };
 
 /// Each core stores its number in one line, and exits with 0.
-const STORES: &[u8] = b"lui x8, 1\nsw x10, 0(x8)\naddi x17, x0, 93\naddi x10, x0, 0\necall";
+pub const STORES: &[u8] = b"lui x8, 1\nsw x10, 0(x8)\naddi x17, x0, 93\naddi x10, x0, 0\necall";
 
 /// Calls whose inputs are assembler texts, of which the images are run.
 const PROGRAMS: [Case; 23] = [

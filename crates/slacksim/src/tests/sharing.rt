@@ -34,7 +34,7 @@ done:   addi a7, x0, 93
 ";
 
 /// Two cores each add 2 to a word by LR and SC, 20 times: 80, the letter P. Core 0 waits for both and prints it.
-const CONDITIONAL_SUMS: &[u8] = b"
+pub const CONDITIONAL_SUMS: &[u8] = b"
         lui  s0, 1
         addi s2, x0, 20
 again:  lr.w t0, (s0)
@@ -60,7 +60,7 @@ done:   addi a7, x0, 93
 
 /// Four cores each count to 16 in a word of their own, all in one line: 64, the sign @. Core 0 waits for all, adds the
 /// four words and prints the sum.
-const WORDS_OF_ONE_LINE: &[u8] = b"
+pub const WORDS_OF_ONE_LINE: &[u8] = b"
         lui  s0, 1
         slli t0, a0, 2
         add  s1, s0, t0
@@ -93,7 +93,7 @@ done:   addi a7, x0, 93
 
 /// Core 0 puts the letters A to E into a word, one after another, each once a flag says that the last one was taken.
 /// Core 1 prints each.
-const PRODUCER: &[u8] = b"
+pub const PRODUCER: &[u8] = b"
         lui  s0, 1
         bne  a0, x0, takes
         addi s2, x0, 65
@@ -121,7 +121,7 @@ done:   addi a7, x0, 93
 ";
 
 /// Three cores meet three times. In round k core k prints the letter of its number before it comes to the meeting.
-const BARRIER: &[u8] = b"
+pub const BARRIER: &[u8] = b"
         lui  s0, 1
         addi t3, s0, 32
         addi s1, a0, 0

@@ -1,17 +1,15 @@
-//! Runs in a given interleaving, with the reports and the notes that the rules give.
+//! Runs in a given interleaving and in pieces of some cycles, with the reports and the notes that the rules give.
+use super::programs::STORES;
 use super::{Case, call, check};
 use crate::answers::Answer;
 use std::test::Fail;
 
 const ALL_ZERO: Answer = Answer::Done { all_zero: true };
 
-/// Each core stores its number in one line, and exits with 0.
-const STORES: &[u8] = b"lui x8, 1\nsw x10, 0(x8)\naddi x17, x0, 93\naddi x10, x0, 0\necall";
-
 /// A core loads a word, and exits with 0.
 const LOADS: &[u8] = b"lui x8, 1\nlw x5, 0(x8)\naddi x17, x0, 93\naddi x10, x0, 0\necall";
 
-const SCRIPTS: [Case; 3] = [
+const DRIFTS: [Case; 5] = [
     // Core 1 runs ahead, and its ask is served before core 0's of the same cycle: the two change places.
     Case {
         words: &[
@@ -74,11 +72,29 @@ const SCRIPTS: [Case; 3] = [
         },
         text: b"cores 1\ncycles 11\ncore 0 running at 11 retired 1 accesses 0 misses 1 retries 0 waits 9 snoops 0 writebacks 0\nbus 0 asks 1 retries 0 free 3\nconsole 0\n\ninterval 0 bounded 11 bus 0 map 0 line 0 reply 0\nticks drift 11 replay 0\n",
     },
+    // Two cycles are the least time from an ask to its post: it is as if cycle by cycle.
+    Case {
+        words: &["run", "--cores", "2", "--mode", "quantum", "--quantum", "2"],
+        input: STORES,
+        status: 0,
+        answer: ALL_ZERO,
+        text: b"cores 2\ncycles 22\ncore 0 exit 0 at 14 retired 5 accesses 1 misses 1 retries 0 waits 9 snoops 1 writebacks 0\ncore 1 exit 0 at 21 retired 5 accesses 1 misses 6 retries 5 waits 11 snoops 0 writebacks 0\nbus 0 asks 8 retries 5 free 17\nconsole 0\n\n",
+    },
+    // With three, core 1 takes its retry of 11 at 12, and core 0 the snoop of 14 at 15.
+    Case {
+        words: &[
+            "run", "--cores", "2", "--mode", "quantum", "--quantum", "3", "--notes", "on",
+        ],
+        input: STORES,
+        status: 0,
+        answer: ALL_ZERO,
+        text: b"cores 2\ncycles 22\ncore 0 exit 0 at 14 retired 5 accesses 1 misses 1 retries 0 waits 9 snoops 1 writebacks 0\ncore 1 exit 0 at 21 retired 5 accesses 1 misses 5 retries 4 waits 12 snoops 0 writebacks 0\nbus 0 asks 7 retries 4 free 17\nconsole 0\n\ninterval 0 bounded 1000 bus 0 map 0 line 1 reply 1\nline core 0 id 12.1.0 due 14 clock 15\nreply core 1 id 9.1.0 due 11 clock 12\nticks drift 2000 replay 0\n",
+    },
 ];
 
 #[test]
-fn interleavings_that_are_given(rt: HostRuntime) -> Result<(), Fail> {
-    for case in &SCRIPTS {
+fn drifts_that_are_told(rt: HostRuntime) -> Result<(), Fail> {
+    for case in &DRIFTS {
         let image = call(&rt, &["asm"], case.input)?;
         check(&rt, case, image.text.as_slice())?;
     }
