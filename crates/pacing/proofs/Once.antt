@@ -9,8 +9,8 @@ use Rattle.target_law.specs.Runs.{Step, Goes, first, next, Ends, at_once, later,
 use Rattle.target_law.specs.Stops.{is_over}
 use Rattle.violation_watch.specs.BoundedNotes.{IsBoundedBy}
 use Rattle.violation_watch.specs.Scan.{scan_of}
-use Rattle.pacing.specs.Laws.{AllOneRun}
 use Rattle.pacing.specs.Pieces.{IsPieces}
+use Rattle.pacing.specs.QuantumRuns.{AllOneRun}
 use Rattle.pacing.proofs.Onlys.{one_outcome}
 
 module _ {Inner Chan : Type 0} (rules : Rules Inner Chan) where

@@ -1,14 +1,11 @@
 -- What is so of all drifts in pieces.
-use Rattle.std.specs.Prelude.{◌≡◌, ◌+◌, ◌≤◌, ℕ, List, []}
+use Rattle.std.specs.Prelude.{◌≡◌, ◌+◌, ◌≤◌, ℕ, []}
 use Rattle.slack_base.specs.declared.bounds.TheConstants.{TOP}
 use Rattle.slack_base.specs.declared.histories.Drift.{Drift}
-use Rattle.slack_base.specs.declared.notes.Interval.{Interval}
 use Rattle.target_law.specs.Cycles.{StateValue}
 use Rattle.target_law.specs.Drifts.{IsDrift}
 use Rattle.target_law.specs.Proper.{IsProper}
 use Rattle.target_law.specs.Rules.{Rules, Owns}
-use Rattle.target_law.specs.Runs.{Ends}
-use Rattle.violation_watch.specs.BoundedNotes.{IsBoundedBy}
 use Rattle.violation_watch.specs.Scan.{scan_of}
 use Rattle.pacing.specs.Pieces.{IsPieces}
 
@@ -18,14 +15,6 @@ module _ {Inner Chan : Type 0} (rules : Rules Inner Chan) where
   AllOneOutcome =
       (quantum k : ℕ) (s : StateValue Inner Chan) (d d2 : Drift) (e e2 : StateValue Inner Chan)
       → IsPieces rules quantum k s d e → IsPieces rules quantum k s d2 e2 → (d ≡ d2) × (e ≡ e2)
-
-  -- so a run of them has one list of notes and one end, whatever it is run by
-  abbrev pub AllOneRun : Type 0
-  AllOneRun =
-      (quantum interval limit : ℕ) (s : StateValue Inner Chan) (notes notes2 : List Interval) (e e2 : StateValue Inner Chan)
-      → Ends rules interval limit (IsBoundedBy rules (IsPieces rules quantum)) s notes e
-      → Ends rules interval limit (IsBoundedBy rules (IsPieces rules quantum)) s notes2 e2
-      → (notes ≡ notes2) × (e ≡ e2)
 
   module _ (owns : Owns Inner Chan) where
     -- a drift from the state to its end, which is proper

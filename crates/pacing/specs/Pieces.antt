@@ -92,7 +92,8 @@ module _ {Inner Chan : Type 0} (rules : Rules Inner Chan) where
   -- pieces of so many cycles one after another up to the end clock, the last one cut to it
   pub data ByPieces (quantum end : ℕ) : UnderwayValue Inner Chan → UnderwayValue Inner Chan → Type 0 where
     ended : {w : UnderwayValue Inner Chan} → w.clock ≡ end → ByPieces quantum end w w
-    piece : {w v e : UnderwayValue Inner Chan} → w.clock < end → IsPiece (min quantum (end - w.clock)) w v → ByPieces quantum end v e → ByPieces quantum end w e
+    piece : {w v e : UnderwayValue Inner Chan}
+        → w.clock < end → IsPiece (min quantum (end - w.clock)) w v → ByPieces quantum end v e → ByPieces quantum end w e
 
   -- the state that is left at the end: the channels are closed
   abbrev pub closed : UnderwayValue Inner Chan → StateValue Inner Chan

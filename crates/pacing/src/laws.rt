@@ -1,5 +1,6 @@
 //! What is so of drifts in pieces, of every target.
-ghost use Rattle.pacing.specs.Laws.{AllDrift, AllOneOutcome, AllOneRun, AllQuiet};
+ghost use Rattle.pacing.specs.Laws.{AllDrift, AllOneOutcome, AllQuiet};
+ghost use Rattle.pacing.specs.QuantumRuns.{AllOneRun};
 
 use target_law::Target;
 

@@ -2,11 +2,9 @@
 ghost use Rattle.std.specs.Prelude.{◌≤◌, IfOk};
 ghost use Rattle.slack_base.specs.declared.bounds.TheConstants.{TOP};
 ghost use Rattle.target_law.specs.Proper.{IsProper};
-ghost use Rattle.target_law.specs.Runs.{Ends};
 ghost use Rattle.target_law.specs.Views.{state_of};
-ghost use Rattle.violation_watch.specs.BoundedNotes.{IsBoundedBy};
 ghost use Rattle.pacing.specs.Exact.{IsExactIfShort};
-ghost use Rattle.pacing.specs.Pieces.{IsPieces};
+ghost use Rattle.pacing.specs.QuantumRuns.{IsQuantumRun};
 
 use crate::drifts::quantum_drift;
 use slack_base::{Interval, NoteList, OutOfMemory};
@@ -32,7 +30,7 @@ pub fn quantum_run<R: Threads + Sync, T: Target + Sync>(
     requires interval { 1 ≤ interval }
     requires quantum { 1 ≤ quantum }
     // Each interval is the drift of its pieces.
-    ensures runs { IfOk result (λ r. Ends (T.rules target.now) interval limit (IsBoundedBy (T.rules target.now) (IsPieces (T.rules target.now) quantum)) (state_of T.values state) r.notes (state_of T.values r.end)) }
+    ensures runs { IfOk result (λ r. IsQuantumRun (T.rules target.now) quantum interval limit (state_of T.values state) r.notes (state_of T.values r.end)) }
     ensures proper { IfOk result (λ r. IsProper (T.rules target.now) (T.owns target.now) (state_of T.values r.end)) }
     // Where pieces are no longer than the lookahead, the run is as if it were cycle by cycle, and nothing is recorded.
     ensures exact { IfOk result (λ r. IsExactIfShort (T.rules target.now) interval limit quantum (state_of T.values state) r.notes (state_of T.values r.end)) }

@@ -1,10 +1,8 @@
 //! All cores tick through a piece, each by itself.
-ghost use Rattle.std.specs.Prelude.{◌≡◌, ◌+◌, ◌≤◌, map, OnOk, All};
+ghost use Rattle.std.specs.Prelude.{◌+◌, ◌≤◌, OnOk};
 ghost use Rattle.std.specs.Thread.{IsSync, IsSend};
 ghost use Rattle.slack_base.specs.declared.bounds.TheConstants.{TOP};
-ghost use Rattle.target_law.specs.Proper.{IsCore};
-ghost use Rattle.pacing.specs.Pieces.{lane_ticked};
-ghost use Rattle.pacing.specs.Views.{lane_of, ticked_of};
+ghost use Rattle.pacing.specs.Views.{AreCores, HaveTicked};
 
 use crate::lanes::Lane;
 use slack_base::OutOfMemory;
@@ -24,8 +22,8 @@ pub fn tick_all<R: Threads + Sync, C: Send + Drop, T: Target<Core = C> + Sync>(
     lanes: &mut [Lane<C>],
 ) -> Result<(), OutOfMemory>
     requires end { from + len ≤ TOP }
-    requires cores { All (λ lane. IsCore (T.rules target.now) (T.owns target.now) (T.values.core lane.core)) lanes.old }
-    ensures { OnOk result (map (ticked_of T.values) lanes.new ≡ map (lane_ticked (T.rules target.now) from len) (map (lane_of T.values) lanes.old)) }
+    requires cores { AreCores T.values (T.rules target.now) (T.owns target.now) lanes.old }
+    ensures { OnOk result (HaveTicked T.values (T.rules target.now) from len lanes.old lanes.new) }
 {
     if len < PARALLEL_FROM {
         tick_each(target, from, len, lanes)
@@ -42,8 +40,8 @@ fn tick_each<C: Send + Drop, T: Target<Core = C>>(
     lanes: &mut [Lane<C>],
 ) -> Result<(), OutOfMemory>
     requires end { from + len ≤ TOP }
-    requires cores { All (λ lane. IsCore (T.rules target.now) (T.owns target.now) (T.values.core lane.core)) lanes.old }
-    ensures { OnOk result (map (ticked_of T.values) lanes.new ≡ map (lane_ticked (T.rules target.now) from len) (map (lane_of T.values) lanes.old)) }
+    requires cores { AreCores T.values (T.rules target.now) (T.owns target.now) lanes.old }
+    ensures { OnOk result (HaveTicked T.values (T.rules target.now) from len lanes.old lanes.new) }
 {
     for lane in lanes.iter_mut() {
         lane.tick(target, from, len)?;
@@ -61,8 +59,8 @@ fn tick_apart<R: Threads + Sync, C: Send + Drop, T: Target<Core = C> + Sync>(
     lanes: &mut [Lane<C>],
 ) -> Result<(), OutOfMemory>
     requires end { from + len ≤ TOP }
-    requires cores { All (λ lane. IsCore (T.rules target.now) (T.owns target.now) (T.values.core lane.core)) lanes.old }
-    ensures { OnOk result (map (ticked_of T.values) lanes.new ≡ map (lane_ticked (T.rules target.now) from len) (map (lane_of T.values) lanes.old)) }
+    requires cores { AreCores T.values (T.rules target.now) (T.owns target.now) lanes.old }
+    ensures { OnOk result (HaveTicked T.values (T.rules target.now) from len lanes.old lanes.new) }
 {
     if lanes.is_empty() {
         return Ok(());
@@ -86,18 +84,18 @@ fn tick_both<R: Threads + Sync, C: Send + Drop, T: Target<Core = C> + Sync>(
     back: &mut [Lane<C>],
 ) -> Result<(), OutOfMemory>
     requires end { from + len ≤ TOP }
-    requires front { All (λ lane. IsCore (T.rules target.now) (T.owns target.now) (T.values.core lane.core)) front.old }
-    requires back { All (λ lane. IsCore (T.rules target.now) (T.owns target.now) (T.values.core lane.core)) back.old }
-    ensures front { OnOk result (map (ticked_of T.values) front.new ≡ map (lane_ticked (T.rules target.now) from len) (map (lane_of T.values) front.old)) }
-    ensures back { OnOk result (map (ticked_of T.values) back.new ≡ map (lane_ticked (T.rules target.now) from len) (map (lane_of T.values) back.old)) }
+    requires front { AreCores T.values (T.rules target.now) (T.owns target.now) front.old }
+    requires back { AreCores T.values (T.rules target.now) (T.owns target.now) back.old }
+    ensures front { OnOk result (HaveTicked T.values (T.rules target.now) from len front.old front.new) }
+    ensures back { OnOk result (HaveTicked T.values (T.rules target.now) from len back.old back.new) }
 {
     let mut one = || -> Result<(), OutOfMemory>
-        requires { IsSync R.row × IsSync T.row × IsSend C.row × (from + len ≤ TOP) × All (λ lane. IsCore (T.rules target.now) (T.owns target.now) (T.values.core lane.core)) front.now }
-        ensures { OnOk result (map (ticked_of T.values) front.exit.now ≡ map (lane_ticked (T.rules target.entry.now) from len) (map (lane_of T.values) front.entry.now)) }
+        requires { IsSync R.row × IsSync T.row × IsSend C.row × (from + len ≤ TOP) × AreCores T.values (T.rules target.now) (T.owns target.now) front.now }
+        ensures { OnOk result (HaveTicked T.values (T.rules target.entry.now) from len front.entry.now front.exit.now) }
     { tick_apart(rt, target, from, len, front) };
     let mut two = || -> Result<(), OutOfMemory>
-        requires { IsSync R.row × IsSync T.row × IsSend C.row × (from + len ≤ TOP) × All (λ lane. IsCore (T.rules target.now) (T.owns target.now) (T.values.core lane.core)) back.now }
-        ensures { OnOk result (map (ticked_of T.values) back.exit.now ≡ map (lane_ticked (T.rules target.entry.now) from len) (map (lane_of T.values) back.entry.now)) }
+        requires { IsSync R.row × IsSync T.row × IsSend C.row × (from + len ≤ TOP) × AreCores T.values (T.rules target.now) (T.owns target.now) back.now }
+        ensures { OnOk result (HaveTicked T.values (T.rules target.entry.now) from len back.entry.now back.exit.now) }
     { tick_apart(rt, target, from, len, back) };
     let (first, second) = join_mut(rt, &mut one, &mut two);
     first?;
