@@ -7,7 +7,6 @@ use Rattle.target_law.specs.Served.{Pairwise}
 use Rattle.target_law.proofs.Places.{numbered_get}
 use Rattle.drive_script.specs.Worlds.{oldest, younger}
 use Rattle.drive_script.proofs.Places.{Along}
-use Rattle.manager.specs.Places.{EachPlace, PlacePairs}
 
 -- the first of what is left
 pub drop_first : {X : Type 0} (k : ℕ) (xs : List X) (x : X) (ys : List X) → x ∷ ys ≡ drop k xs → slice_get xs k ≡ Some x

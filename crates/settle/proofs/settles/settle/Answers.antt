@@ -1,4 +1,4 @@
-use Rattle.std.proofs.Common.{◌≡◌, ◌∙◌, ◌≤◌, List, Option, length, map, take, sym, subst, ap, refl}
+use Rattle.std.proofs.Common.{◌∙◌, ◌≤◌, List, Option, length, take, sym, subst, ap, refl}
 use Rattle.slack_base.specs.declared.messages.Ask.{Ask}
 use Rattle.slack_base.specs.declared.stamps.Id.{Id}
 use Rattle.violation_watch.specs.Watching.{SawServed}
@@ -6,7 +6,7 @@ use Rattle.drive_script.specs.Views.{world_of}
 use Rattle.drive_script.proofs.Ending.{finish_drifts}
 use Rattle.manager.specs.declared.managers.Desk.{Desk}
 use Rattle.manager.specs.Places.{PlacePairs}
-use Rattle.settle.specs.Gathers.{AreLinked, AreGathered}
+use Rattle.settle.specs.Gathers.{AreLinked}
 use Rattle.settle.proofs.Growing.{all_even, first_within, first_saw, raw_saw}
 use Rattle.settle.proofs.WorldOf.{stored_open, stored_finishes, stored_underway, finishes_end}
 use Rattle.settle.proofs.settles.settle.Goals as goal
