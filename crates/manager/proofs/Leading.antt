@@ -1,8 +1,8 @@
 -- The steps of the manager's leg.
-use Rattle.std.proofs.Common.{◌≡◌, ◌∙◌, ℕ, ◌≤◌, List, [], ◌∷◌, ◌++◌, All, length, map, max, refl, sym, ap, subst, arith, append_assoc, append-nil}
+use Rattle.std.proofs.Common.{◌≡◌, ◌∙◌, ℕ, ◌≤◌, List, [], ◌++◌, length, map, max, refl, sym, ap, subst, arith, append_assoc, append-nil}
 use Rattle.std.specs.List.{AllByRecursion as Each}
 use Rattle.std.proofs.lemmas.List.{length-map}
-use Rattle.core_gate.specs.Seats.{cores_of, SameOverseer}
+use Rattle.core_gate.specs.Seats.{SameOverseer}
 use Rattle.core_gate.specs.Steps.{IsLeast}
 use Rattle.core_gate.specs.declared.overseers.Overseer.{Overseer}
 use Rattle.slack_base.specs.declared.messages.Ask.{Ask}
@@ -20,13 +20,12 @@ use Rattle.target_law.proofs.Serving.{length-through, through_are, through_posts
 use Rattle.violation_watch.specs.Watching.{SawServed}
 use Rattle.violation_watch.proofs.Channels.{through_chans-append, through_posts-append}
 use Rattle.drive_script.proofs.Underway.{through_clashes-append}
-use Rattle.manager.specs.declared.managers.Desk.{Desk}
 use Rattle.manager.specs.declared.managers.Manager.{Manager}
-use Rattle.manager.specs.Leads.{SameDesk, Sent, Received, ServedOne, Led}
+use Rattle.manager.specs.Leads.{SameDesk, Received, Led}
 use Rattle.manager.specs.Managers.{IsReadyDesk, IsReadyManager, IsThrough}
 use Rattle.manager.specs.Places.{EachPlace, PlacePairs}
-use Rattle.manager.proofs.Desks.{DeskMoved, ready_moved, posts_moved, desks_same, desks_received, sender_same, receiver_same, sender_then, receiver_then}
-use Rattle.manager.proofs.Places.{pairs_same, pairs_then, pairs_weaker, each_along}
+use Rattle.manager.proofs.Desks.{DeskMoved, ready_moved, posts_moved, desks_same, desks_received, sender_then, receiver_then}
+use Rattle.manager.proofs.Places.{pairs_then, pairs_weaker, each_along}
 
 overseer_same : (o : Overseer) → SameOverseer o o
 overseer_same o = (refl, refl, refl)

@@ -1,5 +1,5 @@
 -- One ask served from its desk.
-use Rattle.std.proofs.Common.{◌≡◌, ◌∙◌, ℕ, ◌<◌, List, [], ◌∷◌, ◌++◌, All, length, map, get_or, set, slice_get, Some, None, refl, sym, ap, subst, arith}
+use Rattle.std.proofs.Common.{◌≡◌, ◌∙◌, ℕ, ◌<◌, List, [], ◌∷◌, ◌++◌, All, length, map, get_or, set, Some, None, sym, ap, subst}
 use Rattle.std.specs.List.{AllByRecursion as Each}
 use Rattle.std.proofs.lemmas.List.{length-set}
 use Rattle.std.proofs.lemmas.List.Elements.{All-from_recursion}
@@ -22,9 +22,9 @@ use Rattle.manager.specs.declared.managers.Manager.{Manager}
 use Rattle.manager.specs.Leads.{Sent, ServedOne, Led}
 use Rattle.manager.specs.Managers.{IsReadyManager}
 use Rattle.manager.specs.Places.{PlacePairs}
-use Rattle.manager.specs.Queues.{queues_of, oldest_at, without_oldest_at, next_id, TakesOldest}
+use Rattle.manager.specs.Queues.{queues_of, next_id, TakesOldest}
 use Rattle.manager.proofs.Desks.{desks_served}
-use Rattle.manager.proofs.Leading.{Moved, own_posts, led_moved, overseer_kept, never_falls}
+use Rattle.manager.proofs.Leading.{own_posts, led_moved, overseer_kept, never_falls}
 use Rattle.manager.proofs.Places.{get_read}
 use Rattle.manager.proofs.Queues.{place_within, servable_at}
 

@@ -1,5 +1,5 @@
 -- The asks that wait at desks, one step of serving after another.
-use Rattle.std.proofs.Common.{◌≡◌, ◌∙◌, ℕ, ◌+◌, ◌<◌, ◌≤◌, ◌==◌, ◌&&◌, zero, suc, List, [], ◌∷◌, ◌++◌, map, length, get_or, true, false, cond, Bool, Option, Some, None, refl, sym, ap, subst, arith, append_assoc, append-nil}
+use Rattle.std.proofs.Common.{◌≡◌, ◌∙◌, ℕ, ◌<◌, ◌==◌, ◌&&◌, List, [], ◌∷◌, ◌++◌, length, get_or, true, false, cond, Bool, Some, None, refl, sym, subst, arith, append_assoc}
 use Rattle.std.proofs.lemmas.Bool.{false≢true}
 use Rattle.std.proofs.lemmas.Option.{none-some}
 use Rattle.slack_base.specs.declared.messages.Ask.{Ask}
@@ -12,7 +12,7 @@ use Rattle.violation_watch.proofs.Lists.{less_or}
 use Rattle.drive_script.specs.Finishing.{IsFirstLeast, NoKey, is_before}
 use Rattle.drive_script.specs.Loops.{total}
 use Rattle.drive_script.specs.Worlds.{oldest, younger}
-use Rattle.drive_script.proofs.Places.{stored_seen, stored_none, oldest_first}
+use Rattle.drive_script.proofs.Places.{stored_seen, stored_none}
 use Rattle.drive_script.proofs.Waiting.{total_less}
 use Rattle.manager.specs.declared.managers.Desk.{Desk}
 use Rattle.manager.specs.Queues.{queues_of, oldest_at, without_oldest_at, servable_id, next_id, ServesAll, done, serves}

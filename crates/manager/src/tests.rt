@@ -70,7 +70,9 @@ const SERVED: [Id; 4] = [CORE_2_AT_1, CORE_1_AT_2, CORE_0_AT_3, CORE_2_AT_7];
 
 /// The asks that are answered by posts to each core.
 const TO_CORE_0: [Id; 2] = [CORE_2_AT_1, CORE_2_AT_7];
+
 const TO_CORE_1: [Id; 1] = [CORE_0_AT_3];
+
 const TO_CORE_2: [Id; 1] = [CORE_1_AT_2];
 
 /// An ask of core 1 on the ring of core 0, one of core 0 behind it, and one of core 1 on its own ring.
@@ -78,12 +80,14 @@ const ASTRAY: [(usize, Id); 3] = [(0, CORE_1_AT_0), (0, CORE_0_AT_1), (1, CORE_1
 
 /// An ask of core 0, and an earlier one of core 1 that comes later.
 const FIRST: [(usize, Id); 1] = [(0, CORE_0_AT_5)];
+
 const LATE: [(usize, Id); 1] = [(1, CORE_1_AT_2)];
 
 const OUT_OF_ORDER: [Id; 2] = [CORE_0_AT_5, CORE_1_AT_2];
 
 /// What the late ask clashed with, and what is recorded of it.
 const CLASHES: [Option<Id>; 2] = [None, Some(CORE_0_AT_5)];
+
 const FOUND: [Violation; 2] = [
     Violation::Bus {
         channel: 0,

@@ -1,6 +1,7 @@
 -- Finishing only adds to a history.
-use Rattle.std.proofs.Common.{◌≡◌, ◌∙◌, ℕ, ◌+◌, ◌≤◌, List, [], ◌∷◌, ◌++◌, Option, Some, None, length, take, true, false, cond, nat_lt, refl, sym, ap, subst, arith, append_assoc, append-nil}
-use Rattle.std.proofs.lemmas.List.{length-append}
+use Rattle.std.proofs.Common.{◌≡◌, ◌∙◌, ℕ, ◌+◌, ◌≤◌, List, [], ◌∷◌, ◌++◌, Option, Some, None, length, map, slice_get, take, true, false, cond, nat_lt, refl, sym, ap, subst, arith, append_assoc, append-nil}
+use Rattle.std.proofs.lemmas.List.{length-append, length-map}
+use Rattle.std.proofs.lemmas.Option.{slice_get_within}
 use Rattle.slack_base.specs.declared.histories.Taken.{Taken}
 use Rattle.slack_base.specs.declared.messages.Ask.{Ask}
 use Rattle.slack_base.specs.declared.messages.Post.{Post}
@@ -13,7 +14,15 @@ use Rattle.violation_watch.specs.Watching.{SawServed, begins, serves}
 use Rattle.violation_watch.specs.declared.watches.Watch.{Watch}
 use Rattle.drive_script.specs.Finishing.{Finishes, done, goes}
 use Rattle.drive_script.specs.Worlds.{LaneValue, WorldValue, without_oldest, with_waiting, posted, oldest_ask, lane_ticked, lane_taking, world_serving, stepped}
+use Rattle.drive_script.specs.declared.lanes.Lane.{Lane}
+use Rattle.drive_script.specs.Views.{lane_of}
 use Rattle.drive_script.proofs.Places.{Along, along_changed}
+use Rattle.manager.specs.declared.managers.Desk.{Desk}
+use Rattle.target_law.specs.Values.{Values}
+use Rattle.settle.specs.Gathers.{AreGathered}
+use Rattle.settle.specs.Settles.{HaveTakenMore}
+use Rattle.settle.specs.declared.parts.Part.{Part}
+use Rattle.settle.proofs.Lists.{get_in, get_map, along_count, along_at}
 
 -- the list is one that grew
 abbrev pub Grew : {X : Type 0} → List X → List X → Type 0
@@ -139,3 +148,25 @@ module _ {Inner Chan : Type 0} (rules : Rules Inner Chan) where
         let asks_first : take from e.served ≡ served = ap (λ n. take n e.served) is ∙ ap (take (length served)) whole_served ∙ take_first served grown.served.0 in
         let clashes_first : take from e.clashes ≡ clashes = ap (λ n. take n e.clashes) (is ∙ sym (saw_even saw)) ∙ ap (take (length clashes)) whole_clashes ∙ take_first clashes grown.clashes.0 in
         subst (λ xs. SawServed rules (take from e.clashes) xs watch) (sym asks_first) (subst (λ hs. SawServed rules hs served watch) (sym clashes_first) saw)
+
+-- each core has taken what its part took, and then maybe more
+module _ {Inner Chan : Type 0} (rules : Rules Inner Chan) {Core D : Type 0} (values : Values Core D Inner Chan) (desks : List Desk) (parts : List (Part Core)) (lanes lasts : List (Lane Core)) (w e : WorldValue Inner Chan)
+    (count : length parts ≡ length desks) (is : AreGathered desks parts lanes) (w_lanes : w.lanes ≡ map (lane_of values) lanes) (e_lanes : e.lanes ≡ map (lane_of values) lasts) (finishes : Finishes rules w e) where
+  along : Along TookMore 0 (map (lane_of values) lanes) (map (lane_of values) lasts)
+  along = subst (Along TookMore 0 (map (lane_of values) lanes)) e_lanes (subst (λ ls. Along TookMore 0 ls e.lanes) w_lanes (finishing_grows rules w finishes (grown_same rules w)).lanes)
+
+  last_count : length lasts ≡ length parts
+  last_count = sym (length-map lasts (lane_of values)) ∙ along_count TookMore 0 (map (lane_of values) lanes) (map (lane_of values) lasts) along ∙ length-map lanes (lane_of values) ∙ is.count
+
+  taken_at : (c : ℕ) (part : Part Core) (last : Lane Core) → slice_get parts c ≡ Some part → slice_get lasts c ≡ Some last → (more : List Taken) × (last.taken ≡ part.taken ++ more)
+  taken_at c part last part_at last_at =
+      let within = slice_get_within parts c part part_at in
+      let whole = is.count in
+      let lane = get_in lanes c (omega (arith, within, whole)) in
+      let desk = get_in desks c (omega (arith, within, count)) in
+      let more = along_at (λ (a b : LaneValue Inner). Grew a.taken b.taken) 0 c (map (lane_of values) lanes) (map (lane_of values) lasts) (lane_of values lane.0) (lane_of values last) along
+      (get_map (lane_of values) lanes c lane.0 lane.1) (get_map (lane_of values) lasts c last last_at) in
+      (more.0, more.1 ∙ ap (λ ts. ts ++ more.0) (is.at c desk.0 part lane.0 desk.1 part_at lane.1).taken)
+
+  pub taken_more : HaveTakenMore parts lasts
+  taken_more = record { count = last_count; at = taken_at }

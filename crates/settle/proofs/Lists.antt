@@ -7,7 +7,6 @@ use Rattle.target_law.specs.Served.{Pairwise}
 use Rattle.target_law.proofs.Places.{numbered_get}
 use Rattle.drive_script.specs.Worlds.{oldest, younger}
 use Rattle.drive_script.proofs.Places.{Along}
-use Rattle.manager.specs.Places.{EachPlace, PlacePairs}
 
 -- the first of what is left
 pub drop_first : {X : Type 0} (k : ℕ) (xs : List X) (x : X) (ys : List X) → x ∷ ys ≡ drop k xs → slice_get xs k ≡ Some x
@@ -79,3 +78,17 @@ along_of R n (x ∷ xs) (y ∷ ys) count at = (
   let here : n + 0 ≡ n = omega arith in subst (λ k. R k x y) here (at 0 x y refl refl),
   along_of R (n + 1) xs ys (omega (arith, count)) (λ i a b ea eb. let there : n + suc i ≡ n + 1 + i = omega arith in subst (λ k. R k a b) there (at (suc i) a b ea eb)),
 )
+
+pub along_count : {X Y : Type 0} (R : ℕ → X → Y → Type 0) (n : ℕ) (xs : List X) (ys : List Y) → Along R n xs ys → length ys ≡ length xs
+along_count R n [] [] h = refl
+along_count R n [] (y ∷ ys) h = absurd h
+along_count R n (x ∷ xs) [] h = absurd h
+along_count R n (x ∷ xs) (y ∷ ys) h = ap suc (along_count R (n + 1) xs ys h.1)
+
+-- a fact of two items at a place that doesn't depend on the place
+pub along_at : {X Y : Type 0} (R : X → Y → Type 0) (n i : ℕ) (xs : List X) (ys : List Y) (x : X) (y : Y) → Along (λ _. R) n xs ys → slice_get xs i ≡ Some x → slice_get ys i ≡ Some y → R x y
+along_at R n i [] [] x y h ex ey = absurd (none-some x ex)
+along_at R n i [] (b ∷ ys) x y h ex ey = absurd h
+along_at R n i (a ∷ xs) [] x y h ex ey = absurd h
+along_at R n zero (a ∷ xs) (b ∷ ys) x y h ex ey = subst (R x) (same_Some b y ey) (subst (λ z. R z b) (same_Some a x ex) h.0)
+along_at R n (suc i) (a ∷ xs) (b ∷ ys) x y h ex ey = along_at R (n + 1) i xs ys x y h.1 ex ey

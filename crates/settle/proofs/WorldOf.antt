@@ -1,5 +1,5 @@
 -- What is gathered is a world that is under way.
-use Rattle.std.proofs.Common.{◌≡◌, ◌∙◌, ℕ, ◌+◌, ◌<◌, ◌≤◌, List, [], ◌∷◌, ◌++◌, All, Option, Some, None, map, length, slice_get, refl, sym, ap, subst, arith}
+use Rattle.std.proofs.Common.{◌≡◌, ◌∙◌, ℕ, ◌+◌, ◌<◌, ◌≤◌, List, ◌++◌, All, Option, Some, None, map, length, slice_get, refl, sym, ap, subst, arith}
 use Rattle.std.specs.List.{AllByRecursion as Each}
 use Rattle.std.proofs.lemmas.List.{length-map}
 use Rattle.std.proofs.lemmas.List.Elements.{recursion_from_All}
@@ -13,11 +13,10 @@ use Rattle.slack_base.specs.declared.steps.Step.{Step}
 use Rattle.slack_base.specs.declared.steps.Step.TheVariants.{Tick, Serve, Take}
 use Rattle.slack_base.specs.Inboxes.{CoreValue}
 use Rattle.slack_base.specs.Messages.{id_of}
-use Rattle.stamp_queue.specs.Rings.{all_sent, all_received}
+use Rattle.stamp_queue.specs.Rings.{all_sent}
 use Rattle.target_law.specs.Alone.{Alone}
 use Rattle.target_law.specs.Cycles.{StateValue, through}
 use Rattle.target_law.specs.Drifts.{asks_by, posts_to}
-use Rattle.target_law.specs.Laws.{Laws}
 use Rattle.target_law.specs.Numbered.{AllNumbered}
 use Rattle.target_law.specs.Proper.{IsCoreOf, IsPostTo}
 use Rattle.target_law.specs.Rules.{Rules, Owns}

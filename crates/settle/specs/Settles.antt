@@ -1,5 +1,6 @@
 -- From what is gathered, finishing leads to the end.
-use Rattle.std.specs.Prelude.{ℕ, List, map}
+use Rattle.std.specs.Prelude.{◌≡◌, ℕ, List, ◌++◌, map}
+use Rattle.slack_base.specs.declared.histories.Taken.{Taken}
 use Rattle.target_law.specs.Rules.{Rules}
 use Rattle.target_law.specs.Values.{Values}
 use Rattle.drive_script.specs.declared.lanes.Lane.{Lane}
@@ -7,6 +8,7 @@ use Rattle.drive_script.specs.Finishing.{Finishes}
 use Rattle.drive_script.specs.Views.{lane_of}
 use Rattle.drive_script.specs.Worlds.{WorldValue}
 use Rattle.manager.specs.declared.managers.Manager.{Manager}
+use Rattle.manager.specs.Places.{PlacePairs}
 use Rattle.settle.specs.Gathers.{AreGathered}
 use Rattle.settle.specs.declared.parts.Part.{Part}
 
@@ -27,3 +29,7 @@ module _ {Inner Chan : Type 0} (rules : Rules Inner Chan) {Core D : Type 0} (val
     pub lanes : List (Lane Core)
     pub gathered : AreGathered m.desks.items parts lanes
     pub finishes : Finishes rules (gathered_world values end m lanes) last
+
+-- each core has taken what it took before, and then maybe more
+abbrev pub HaveTakenMore : {Core : Type 0} → List (Part Core) → List (Lane Core) → Type 0
+HaveTakenMore parts lanes = PlacePairs (λ c part lane. (more : List Taken) × (lane.taken ≡ part.taken ++ more)) parts lanes

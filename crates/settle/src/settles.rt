@@ -13,7 +13,7 @@ ghost use Rattle.manager.specs.Managers.{IsReadyManager};
 ghost use Rattle.manager.specs.Places.{PlacePairs};
 ghost use Rattle.settle.specs.Gathers.{AreLinked};
 ghost use Rattle.settle.specs.Parts.{IsReadyPart, AreUnderway};
-ghost use Rattle.settle.specs.Settles.{FinishesFrom};
+ghost use Rattle.settle.specs.Settles.{FinishesFrom, HaveTakenMore};
 
 use crate::gathers::gather;
 use crate::parts::Part;
@@ -52,6 +52,7 @@ pub fn settle<C: Send + Drop, D: Send + Drop, T: Target<Core = C, Chan = D>>(
     ensures finishes { IfOk result (λ r. FinishesFrom (T.rules target.now) T.values end manager parts.items (world_of T.values r.world)) }
     // From whatever state all of them came, the history is that of a drift from there to what the world is left as.
     ensures drift { (s : StateValue T.Inner T.Channel) (k : ℕ) → end ≡ s.clock + k → IsProper (T.rules target.now) (T.owns target.now) s → AreUnderway (T.rules target.now) T.values s manager parts.items → IfOk result (λ r. IsDrift (T.rules target.now) s (history s.clock k (world_of T.values r.world)) (closed (T.rules target.now) (world_of T.values r.world))) }
+    ensures taken { IfOk result (λ r. HaveTakenMore parts.items r.world.lanes.items) }
     ensures watch { IfOk result (λ r. SawServed (T.rules target.now) r.world.clashes r.world.served r.watch) }
 {
     let (chans, desks, served, clashes, mut watch) = manager.into_raw();

@@ -1,4 +1,4 @@
-use Rattle.std.proofs.Common.{◌<◌, ◌∙◌, length, refl, get_or, rules, arith}
+use Rattle.std.proofs.Common.{◌<◌, ◌∙◌, length, refl, get_or, arith}
 use Rattle.drive_script.proofs.Places.{stored_same}
 use Rattle.target_law.proofs.Loops.{blank}
 use Rattle.manager.specs.declared.managers.Desk.{Desk}

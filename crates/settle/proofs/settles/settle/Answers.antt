@@ -1,4 +1,4 @@
-use Rattle.std.proofs.Common.{◌≡◌, ◌∙◌, ◌≤◌, List, Option, length, map, take, sym, subst, ap, refl}
+use Rattle.std.proofs.Common.{◌∙◌, ◌≤◌, List, Option, length, take, sym, subst, ap, refl}
 use Rattle.slack_base.specs.declared.messages.Ask.{Ask}
 use Rattle.slack_base.specs.declared.stamps.Id.{Id}
 use Rattle.violation_watch.specs.Watching.{SawServed}
@@ -6,8 +6,8 @@ use Rattle.drive_script.specs.Views.{world_of}
 use Rattle.drive_script.proofs.Ending.{finish_drifts}
 use Rattle.manager.specs.declared.managers.Desk.{Desk}
 use Rattle.manager.specs.Places.{PlacePairs}
-use Rattle.settle.specs.Gathers.{AreLinked, AreGathered}
-use Rattle.settle.proofs.Growing.{all_even, first_within, first_saw, raw_saw}
+use Rattle.settle.specs.Gathers.{AreLinked}
+use Rattle.settle.proofs.Growing.{all_even, first_within, first_saw, raw_saw, taken_more}
 use Rattle.settle.proofs.WorldOf.{stored_open, stored_finishes, stored_underway, finishes_end}
 use Rattle.settle.proofs.settles.settle.Goals as goal
 
@@ -56,6 +56,13 @@ returns-clause-finishes g c =
     let raw = c.into_raw-chans in
     stored_finishes (g.T.Target.rules t) (g.T.Target.owns t) g.T.Target.values c.args.manager c.args.parts.items c.in_ok-lanes.lanes.items c.args.end c.requires.manager c.requires.parts c.requires.ends.count
     raw.result.0.items raw.result.1.items raw.result.2 raw.result.3 (ap (λ v. v.items) raw.ensures.0) (ap (λ v. v.items) raw.ensures.1) raw.ensures.2 raw.ensures.3 c.in_ok-lanes.ensures _ c.in_ok-finish.ensures.world
+
+pub returns-clause-taken : goal.returns-clause-taken
+returns-clause-taken g c =
+    let raw = c.into_raw-chans in
+    let count = c.requires.ends.count ∙ ap (λ v. length v.items) (sym raw.ensures.1) in
+    taken_more (g.T.Target.rules c.args.target.now) g.T.Target.values raw.result.1.items c.args.parts.items c.in_ok-lanes.lanes.items c.finish.new.world.lanes.items _ (world_of g.T.Target.values c.finish.new.world)
+    count c.in_ok-lanes.ensures refl refl c.in_ok-finish.ensures.world
 
 pub returns-clause-drift : goal.returns-clause-drift
 returns-clause-drift g c =

@@ -1,4 +1,4 @@
-use Rattle.std.proofs.Common.{◌≡◌, ◌<◌, ◌+◌, ◌≤◌, length, take, sym, subst, arith}
+use Rattle.std.proofs.Common.{◌<◌, length, sym, subst, arith}
 use Rattle.std.proofs.lemmas.List.{take_more}
 use Rattle.slack_base.specs.declared.histories.Taken.{Taken}
 use Rattle.target_law.proofs.Loops.{blank}

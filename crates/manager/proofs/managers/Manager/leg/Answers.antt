@@ -1,4 +1,4 @@
-use Rattle.std.proofs.Common.{rules, ◌≡◌, ◌≤◌, ◌<◌, ◌-◌, ◌^◌, ◌⊎◌, inl, inr, ◌∙◌, length, arith, sym}
+use Rattle.std.proofs.Common.{rules, ◌<◌, ◌-◌, ◌^◌, ◌⊎◌, inl, inr, length, arith}
 use Rattle.manager.proofs.Ending.{busy_less, no_fewer}
 use Rattle.manager.proofs.Leading.{led_then}
 use Rattle.manager.proofs.Queues.{none_left}

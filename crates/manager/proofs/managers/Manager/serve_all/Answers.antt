@@ -1,5 +1,4 @@
-use Rattle.std.proofs.Common.{◌<◌, ◌++◌, ◌∷◌, ◌∙◌, List, [], refl, sym, ap, subst, append_assoc, append-nil}
-use Rattle.slack_base.specs.declared.messages.Ask.{Ask}
+use Rattle.std.proofs.Common.{◌<◌, ◌++◌, ◌∷◌, ◌∙◌, [], refl, sym, ap, subst, append_assoc, append-nil}
 use Rattle.manager.specs.Queues.{queues_of, ServesAll, done}
 use Rattle.manager.proofs.Leading.{led_begins, led_then}
 use Rattle.manager.proofs.Queues.{LeadsFrom, waiting, fewer_waiting, leads_more}

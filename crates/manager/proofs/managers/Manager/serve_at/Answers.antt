@@ -1,8 +1,7 @@
 use Rattle.std.proofs.Common.{◌∙◌, sym, arith, refl}
 use Rattle.manager.specs.declared.managers.Desk.{Desk}
-use Rattle.manager.specs.declared.managers.Manager.{Manager}
 use Rattle.manager.proofs.Queues.{place_within}
-use Rattle.manager.proofs.OneServed.{some_ask, proper_ask, inside, led_served, takes_oldest, same_overseer}
+use Rattle.manager.proofs.OneServed.{some_ask, proper_ask, inside, led_served, takes_oldest}
 use Rattle.manager.proofs.managers.Manager.serve_at.Goals as goal
 
 pub index_mut-requires : goal.index_mut-requires

@@ -1,6 +1,4 @@
-use Rattle.std.proofs.Common.{◌≡◌, ◌≤◌, ◌∙◌, refl, sym, ap, subst, arith, max}
-use Rattle.core_gate.specs.declared.overseers.Overseer.{Overseer}
-use Rattle.core_gate.specs.Steps.{IsLeast}
+use Rattle.std.proofs.Common.{refl}
 use Rattle.manager.proofs.Desks.{flushed_received}
 use Rattle.manager.proofs.Leading.{led_received, led_raised, led_then, raised_overseer}
 use Rattle.manager.proofs.managers.Manager.turn.Goals as goal
