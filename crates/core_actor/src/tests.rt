@@ -29,7 +29,8 @@ fn asks_come_out_in_order(rt: HostRuntime) -> Result<(), Fail> {
     for (slots, patience, legs) in &ASKS {
         let mut bench = Bench::new(alloc, *slots, 8)?;
         for (clock, first, second) in legs {
-            bench = bench.leg(&stop_at(alloc, *clock)?, *patience)?;
+            let gate = stop_at(alloc, *clock).expect(&rt, "memory");
+            bench = bench.leg(&gate, *patience).expect(&rt, "memory");
             assert_eq!(rt; bench.actor.lane.clock, *clock, "{slots} slots");
             assert_eq!(rt;
                 bench.next_asks(),
@@ -49,7 +50,7 @@ fn a_core_waits_at_the_slack(rt: HostRuntime) -> Result<(), Fail> {
     for (slack, clocks) in &CLOCKS {
         let mut bench = Bench::new(rt.alloc(), 16, *slack)?;
         for clock in clocks {
-            bench = bench.leg(&NeverHold, 3)?;
+            bench = bench.leg(&NeverHold, 3).expect(&rt, "memory");
             assert_eq!(rt; bench.actor.lane.clock, *clock, "slack {slack}");
             assert_eq!(rt; bench.follow(), *clock);
         }
@@ -64,12 +65,14 @@ fn a_gate_holds_a_core_however_often_it_is_asked(rt: HostRuntime) -> Result<(), 
     stops.push(Stop { core: 0, clock: 5 })?;
     stops.push(Stop { core: 0, clock: 3 })?;
     let gate = StopGate { stops };
+    let later = stop_at(rt.alloc(), 5)?;
     let bench = Bench::new(rt.alloc(), 16, 8)?;
-    let bench = bench.leg(&gate, 0)?.leg(&gate, 3)?;
+    let bench = bench.leg(&gate, 0).expect(&rt, "memory");
+    let bench = bench.leg(&gate, 3).expect(&rt, "memory");
     assert_eq!(rt; bench.actor.lane.clock, 3);
-    let bench = bench.leg(&stop_at(rt.alloc(), 5)?, 0)?;
+    let bench = bench.leg(&later, 0).expect(&rt, "memory");
     assert_eq!(rt; bench.actor.lane.clock, 5);
-    let bench = bench.leg(&NeverHold, 0)?;
+    let bench = bench.leg(&NeverHold, 0).expect(&rt, "memory");
     assert_eq!(rt; bench.actor.lane.clock, 8);
     Ok(())
 }
@@ -96,13 +99,14 @@ const fn post(to: u32) -> Post {
 #[test]
 fn posts_are_taken_up_to_one_that_is_not_proper(rt: HostRuntime) -> Result<(), Fail> {
     let alloc = rt.alloc();
+    let gate = stop_at(alloc, 3)?;
     let mut bench = Bench::new(alloc, 16, 8)?;
-    bench.posts.send(post(0))?;
-    bench = bench.leg(&stop_at(alloc, 3)?, 0)?;
-    bench.posts.send(post(0))?;
-    bench.posts.send(post(1))?;
-    bench.posts.send(post(0))?;
-    bench = bench.leg(&NeverHold, 0)?;
+    assert!(rt; bench.posts.send(post(0)).is_ok());
+    bench = bench.leg(&gate, 0).expect(&rt, "memory");
+    assert!(rt; bench.posts.send(post(0)).is_ok());
+    assert!(rt; bench.posts.send(post(1)).is_ok());
+    assert!(rt; bench.posts.send(post(0)).is_ok());
+    bench = bench.leg(&NeverHold, 0).expect(&rt, "memory");
     assert_eq!(rt; bench.actor.lane.posts.len(), 2);
     let (core, taken, found) = bench.actor.into_parts();
     let in_time = Taken {
