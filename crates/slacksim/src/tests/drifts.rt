@@ -83,7 +83,15 @@ const DRIFTS: [Case; 5] = [
     // With three, core 1 takes its retry of 11 at 12, and core 0 the snoop of 14 at 15.
     Case {
         words: &[
-            "run", "--cores", "2", "--mode", "quantum", "--quantum", "3", "--notes", "on",
+            "run",
+            "--cores",
+            "2",
+            "--mode",
+            "quantum",
+            "--quantum",
+            "3",
+            "--notes",
+            "on",
         ],
         input: STORES,
         status: 0,
