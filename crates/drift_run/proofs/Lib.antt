@@ -1,0 +1,9 @@
+pub mod Zips
+pub mod Pushed
+pub mod Rigged
+pub mod Leaving
+pub mod Ordered
+pub mod Watched
+pub mod Drifted
+pub mod Holding
+pub mod Running

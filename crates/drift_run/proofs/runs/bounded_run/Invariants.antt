@@ -1,0 +1,23 @@
+use Rattle.std.proofs.Common.{◌-◌, ◌≤◌}
+use Rattle.target_law.specs.Proper.{IsProper}
+use Rattle.io_edge.specs.Holds.{Holds}
+use Rattle.target_law.specs.Views.{state_of}
+use Rattle.violation_watch.specs.BoundedNotes.{IsBoundedBy}
+use Rattle.drift_run.specs.BoundedRuns.{IsHolding}
+use Rattle.pacing.proofs.Running.{IsOnItsWay}
+use Rattle.drift_run.proofs.runs.bounded_run.Given as goal
+
+-- the run is between two intervals
+abbrev pub invariant-loop-now : goal.invariant-loop-now
+invariant-loop-now g l =
+    let rules = g.T.Target.rules l.target in
+    let now = state_of g.T.Target.values l.now in
+    let holds : Holds = record { may = g.G.Gate.may_hold l.gate; must = g.G.Gate.must_hold l.gate } in
+    record {
+      low : l.now.clock ≤ l.limit;
+      proper : IsProper rules (g.T.Target.owns l.target) now;
+      way : IsOnItsWay rules l.interval l.limit (IsBoundedBy rules (IsHolding rules holds l.pace.slack)) (state_of g.T.Target.values l.fn.state) l.notes now;
+    }
+
+abbrev pub decreases-loop-now : goal.decreases-loop-now
+decreases-loop-now g l = l.limit - l.now.clock

@@ -1,0 +1,5 @@
+pub mod BoundedRuns
+pub mod Crews
+pub mod Holds
+pub mod Parts
+pub mod Rigs

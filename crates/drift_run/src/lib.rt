@@ -1,0 +1,15 @@
+//! Drifts by threads: each core in a thread of its own, and the manager beside them.
+#![tactic(auto)]
+
+pub mod crews;
+pub mod drifts;
+pub mod legs;
+pub mod parts;
+pub mod rigs;
+pub mod runs;
+
+pub use drifts::{Pace, drift};
+pub use runs::bounded_run;
+
+#[cfg(test)]
+mod tests;
