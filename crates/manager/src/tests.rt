@@ -1,323 +1,110 @@
-//! A manager over the small target, whose rings are fed and read by hand.
-//!
-//! An ask is answered by a post to the core after its own, of the three.
-ghost use Rattle.std.specs.Prelude.{◌≡◌, ◌+◌, ◌<◌, length, OnOk, IfOk};
-ghost use Rattle.target_law.specs.Trio.{trio_rules, trio_owns, trio_values};
+//! A leg of a manager over the small target, whose cores have asked once each. What actors do beside it is tested over
+//! drifts.
+ghost use Rattle.std.specs.Prelude.{◌≡◌, ◌+◌, [], ◌∷◌, length, OnOk, IfOk};
+ghost use Rattle.core_gate.specs.Seats.{cores_of};
+ghost use Rattle.stamp_queue.specs.Rings.{all_received};
+ghost use Rattle.target_law.specs.Trio.{trio_rules, trio_owns, trio_values, first_chan};
 ghost use Rattle.manager.specs.Managers.{IsReadyManager};
 ghost use Rattle.manager.specs.Openings.{AreUnused};
 
 use crate::Manager;
 use crate::managers::{AskReceiverList, PostSenderList};
-use core_gate::{ClockTable, Pacer};
-use slack_base::{Ask, Id, Row, TOP, Violation};
-use stamp_queue::{AskSender, PostReceiver, ask_ring, post_ring};
+use core_gate::{ClockTable, Overseer};
+use slack_base::{Ask, Id, OutOfMemory, Row};
+use stamp_queue::{AskReceiver, ask_ring, post_ring};
 use std::alloc::Global;
-use std::test::Fail;
 use target_law::{Trio, TrioChan};
 
-const CORE_0_AT_1: Id = Id {
-    cycle: 1,
-    core: 0,
-    number: 0,
-};
-
-const CORE_0_AT_3: Id = Id {
-    cycle: 3,
-    core: 0,
-    number: 0,
-};
-
-const CORE_0_AT_5: Id = Id {
-    cycle: 5,
-    core: 0,
-    number: 0,
-};
-
-const CORE_1_AT_0: Id = Id {
-    cycle: 0,
-    core: 1,
-    number: 0,
-};
-
-const CORE_1_AT_2: Id = Id {
-    cycle: 2,
-    core: 1,
-    number: 0,
-};
-
-const CORE_2_AT_1: Id = Id {
-    cycle: 1,
-    core: 2,
-    number: 0,
-};
-
-const CORE_2_AT_7: Id = Id {
-    cycle: 7,
-    core: 2,
-    number: 0,
-};
-
-/// Asks of core 2 at 1 and 7, of core 0 at 3 and of core 1 at 2, each on the ring of its core.
-const SENT: [(usize, Id); 4] = [
-    (2, CORE_2_AT_1),
-    (2, CORE_2_AT_7),
-    (0, CORE_0_AT_3),
-    (1, CORE_1_AT_2),
-];
-
-/// The same, in the order of their ids.
-const SERVED: [Id; 4] = [CORE_2_AT_1, CORE_1_AT_2, CORE_0_AT_3, CORE_2_AT_7];
-
-/// The asks that are answered by posts to each core.
-const TO_CORE_0: [Id; 2] = [CORE_2_AT_1, CORE_2_AT_7];
-
-const TO_CORE_1: [Id; 1] = [CORE_0_AT_3];
-
-const TO_CORE_2: [Id; 1] = [CORE_1_AT_2];
-
-/// An ask of core 1 on the ring of core 0, one of core 0 behind it, and one of core 1 on its own ring.
-const ASTRAY: [(usize, Id); 3] = [(0, CORE_1_AT_0), (0, CORE_0_AT_1), (1, CORE_1_AT_2)];
-
-/// An ask of core 0, and an earlier one of core 1 that comes later.
-const FIRST: [(usize, Id); 1] = [(0, CORE_0_AT_5)];
-
-const LATE: [(usize, Id); 1] = [(1, CORE_1_AT_2)];
-
-const OUT_OF_ORDER: [Id; 2] = [CORE_0_AT_5, CORE_1_AT_2];
-
-/// What the late ask clashed with, and what is recorded of it.
-const CLASHES: [Option<Id>; 2] = [None, Some(CORE_0_AT_5)];
-
-const FOUND: [Violation; 2] = [
-    Violation::Bus {
-        channel: 0,
-        high: CORE_0_AT_5,
-        low: CORE_1_AT_2,
-    },
-    Violation::Map {
-        line: 0,
-        high: CORE_0_AT_5,
-        low: CORE_1_AT_2,
-    },
-];
-
-/// A manager, the other ends of the rings of each core, the ids of the posts that came out of each, and the pacers.
-#[derive(Drop)]
-struct Rig {
-    manager: Manager<TrioChan>,
-    asks: Vec<AskSender>,
-    posts: Vec<PostReceiver>,
-    seen: Vec<Row<Id>>,
-    pacers: Vec<Pacer>,
+/// The first ask of a core in a cycle.
+fn ask_of(cycle: u64, core: u32) -> Ask {
+    let id = Id {
+        cycle,
+        core,
+        number: 0,
+    };
+    Ask::Read { id, line: 0 }
 }
 
-/// The rings of one core more.
+/// The receiving end of a ring that holds one ask.
+fn ring_of(alloc: Global, ask: Ask) -> Result<AskReceiver, OutOfMemory>
+    ensures { IfOk result (λ asks. all_received asks ≡ []) }
+{
+    let (mut sender, receiver) = ask_ring(alloc, 1)?;
+    sender.send(ask)?;
+    Ok(receiver)
+}
+
+/// The rings of one core more, which has asked once.
 fn add_rings(
     alloc: Global,
-    slots: u32,
-    receivers: &mut AskReceiverList,
-    senders: &mut PostSenderList,
-    asks: &mut Vec<AskSender>,
-    posts: &mut Vec<PostReceiver>,
-) -> Result<(), Fail>
-    requires slots { 0 < slots }
-    requires unused { AreUnused receivers.old senders.old }
-    ensures unused { OnOk result (AreUnused receivers.new senders.new) }
-    ensures count { OnOk result ((length receivers.new ≡ length receivers.old + 1) × (length senders.new ≡ length senders.old + 1)) }
+    ask: Ask,
+    asks: &mut AskReceiverList,
+    posts: &mut PostSenderList,
+) -> Result<(), OutOfMemory>
+    requires { AreUnused asks.old posts.old }
+    ensures unused { OnOk result (AreUnused asks.new posts.new) }
+    ensures count { OnOk result ((length asks.new ≡ length asks.old + 1) × (length posts.new ≡ length posts.old + 1)) }
 {
-    let (sender, receiver) = ask_ring(alloc, slots)?;
-    asks.push(sender)?;
-    receivers.push(receiver)?;
-    let (sender, receiver) = post_ring(alloc, slots)?;
-    senders.push(sender)?;
-    posts.push(receiver)?;
+    asks.push(ring_of(alloc, ask)?)?;
+    let (sender, _) = post_ring(alloc, 1)?;
+    posts.push(sender)?;
     Ok(())
 }
 
-/// A manager with rings of so many slots. No clock may be more than 4 ahead of global time.
-fn rigged(alloc: Global, slots: u32) -> Result<Rig, Fail>
-    requires { 0 < slots }
-    ensures { IfOk result (λ rig. IsReadyManager trio_rules trio_owns trio_values rig.manager) }
+/// The rings of three cores that have asked once each.
+fn rings(alloc: Global) -> Result<(AskReceiverList, PostSenderList), OutOfMemory>
+    ensures unused { IfOk result (λ r. AreUnused r.0 r.1) }
+    ensures count { IfOk result (λ r. (length r.0 ≡ 3) × (length r.1 ≡ 3)) }
 {
-    let mut receivers = AskReceiverList::new(alloc);
-    let mut senders = PostSenderList::new(alloc);
-    let mut asks = Vec::new(alloc);
-    let mut posts = Vec::new(alloc);
-    add_rings(
-        alloc,
-        slots,
-        &mut receivers,
-        &mut senders,
-        &mut asks,
-        &mut posts,
-    )?;
-    add_rings(
-        alloc,
-        slots,
-        &mut receivers,
-        &mut senders,
-        &mut asks,
-        &mut posts,
-    )?;
-    add_rings(
-        alloc,
-        slots,
-        &mut receivers,
-        &mut senders,
-        &mut asks,
-        &mut posts,
-    )?;
+    let mut asks = AskReceiverList::new(alloc);
+    let mut posts = PostSenderList::new(alloc);
+    add_rings(alloc, ask_of(3, 0), &mut asks, &mut posts)?;
+    add_rings(alloc, ask_of(2, 1), &mut asks, &mut posts)?;
+    add_rings(alloc, ask_of(1, 2), &mut asks, &mut posts)?;
+    Ok((asks, posts))
+}
+
+/// The overseer of the clocks of three cores.
+fn overseer(alloc: Global) -> Result<Overseer, OutOfMemory>
+    ensures { IfOk result (λ o. cores_of o ≡ 3) }
+{
     let mut table = ClockTable::make(alloc, 3, 0, 4)?;
-    let (overseer, pacers) = table.seats()?;
-    let state = Trio::start(alloc)?;
-    let manager = Manager::new(alloc, state.chans, receivers, senders, overseer)?;
-    let seen = vec_of_rows(alloc)?;
-    Ok(Rig {
-        manager,
-        asks,
-        posts,
-        seen,
-        pacers: pacers.into_vec(),
-    })
+    let (overseer, _) = table.seats()?;
+    Ok(overseer)
 }
 
-/// Three lists with no item.
-fn vec_of_rows(alloc: Global) -> Result<Vec<Row<Id>>, Fail> {
-    let mut rows = Vec::new(alloc);
-    for _ in 0..3 {
-        rows.push(Row::new(alloc))?;
-    }
-    Ok(rows)
-}
-
-/// Sends asks, each on the ring of a core.
-fn send(asks: &mut Vec<AskSender>, sent: &[(usize, Id)]) -> Result<(), Fail> {
-    for (place, id) in sent {
-        if let Some(sender) = asks.get_mut(*place) {
-            sender.send(Ask::Read { id: *id, line: 0 })?;
-        }
-    }
-    Ok(())
-}
-
-/// Pushes the asks that wait for room.
-fn flush(asks: &mut Vec<AskSender>) {
-    for sender in asks.iter_mut() {
-        sender.flush();
-    }
-}
-
-/// Reads what the rings of posts show.
-fn read(posts: &mut Vec<PostReceiver>, seen: &mut Vec<Row<Id>>) -> Result<(), Fail> {
-    for (receiver, ids) in posts.iter_mut().zip(seen.iter_mut()) {
-        for _ in 0..4 {
-            if let Some(post) = receiver.receive() {
-                ids.push(post.id)?;
-            }
-        }
-    }
-    Ok(())
-}
-
-/// A leg that ends as soon as it is idle, after which asks that waited for room are sent.
-fn go(target: &Trio, rig: &mut Rig) -> Result<(), Fail>
-    requires { IsReadyManager trio_rules trio_owns trio_values rig.old.manager }
-    ensures { OnOk result (IsReadyManager trio_rules trio_owns trio_values rig.new.manager) }
+/// The small target's channel.
+fn chans(alloc: Global) -> Result<Row<TrioChan>, OutOfMemory>
+    ensures { IfOk result (λ chans. chans ≡ first_chan 0 ∷ []) }
 {
-    rig.manager.leg(target, 10, 0)?;
-    flush(&mut rig.asks);
-    Ok(())
+    let mut chans = Row::new(alloc);
+    chans.push(TrioChan::new(0))?;
+    Ok(chans)
 }
 
-/// Whether a list has these ids.
-fn is_of(ids: Option<&Row<Id>>, expected: &[Id]) -> bool {
-    ids.is_some_and(|ids| ids.as_slice() == expected)
-}
-
-/// Whether asks have these ids.
-fn are_asks_of(asks: &[Ask], expected: &[Id]) -> bool {
-    asks.len() == expected.len() && asks.iter().zip(expected).all(|(ask, id)| ask.id() == *id)
-}
-
-/// A rig with rings of so many slots, once the asks of `SENT` were sent and served, and all posts were read. Where a ring
-/// has one slot, the second ask of core 2 comes later, and the second post to core 0 waits until the first was read.
-fn ordered(alloc: Global, slots: u32) -> Result<Rig, Fail>
-    requires { 0 < slots }
+/// A manager of these rings.
+fn asked(alloc: Global) -> Result<Manager<TrioChan>, OutOfMemory>
+    ensures { IfOk result (IsReadyManager trio_rules trio_owns trio_values) }
 {
-    let target = Trio::new();
-    let mut rig = rigged(alloc, slots)?;
-    send(&mut rig.asks, SENT.as_slice())?;
-    go(&target, &mut rig)?;
-    go(&target, &mut rig)?;
-    read(&mut rig.posts, &mut rig.seen)?;
-    go(&target, &mut rig)?;
-    read(&mut rig.posts, &mut rig.seen)?;
-    Ok(rig)
+    let overseer = overseer(alloc)?;
+    let chans = chans(alloc)?;
+    let (asks, posts) = rings(alloc)?;
+    Manager::new(alloc, chans, asks, posts, overseer)
 }
 
+/// The least id is served first.
 #[test]
-fn the_least_id_is_served_first(rt: HostRuntime) -> Result<(), Fail> {
-    for slots in [1, 16] {
-        assert!(rt; slots > 0);
-        let rig = ordered(rt.alloc(), slots)?;
-        assert!(rt; is_of(rig.seen.get(0), TO_CORE_0.as_slice()));
-        assert!(rt; is_of(rig.seen.get(1), TO_CORE_1.as_slice()));
-        assert!(rt; is_of(rig.seen.get(2), TO_CORE_2.as_slice()));
-        let (_, served, _, found) = rig.manager.into_parts();
-        assert!(rt; are_asks_of(served.as_slice(), SERVED.as_slice()));
-        assert!(rt; found.is_empty());
-    }
-    Ok(())
-}
-
-/// The ask on the ring of another core waits, and so does the one behind it.
-#[test]
-fn an_ask_of_another_core_waits(rt: HostRuntime) -> Result<(), Fail> {
-    let target = Trio::new();
-    let mut rig = rigged(rt.alloc(), 16)?;
-    send(&mut rig.asks, ASTRAY.as_slice())?;
-    go(&target, &mut rig)?;
-    let (_, desks, served, _, _) = rig.manager.into_raw();
-    assert!(rt; are_asks_of(served.as_slice(), TO_CORE_2.as_slice()));
-    assert!(rt; desks.get(0).is_some_and(|desk| desk.pending.len() == 2));
-    Ok(())
-}
-
-/// The late ask clashes with the one before it, and the watch sees it.
-#[test]
-fn a_late_ask_is_seen(rt: HostRuntime) -> Result<(), Fail> {
-    let target = Trio::new();
-    let mut rig = rigged(rt.alloc(), 1)?;
-    send(&mut rig.asks, FIRST.as_slice())?;
-    go(&target, &mut rig)?;
-    send(&mut rig.asks, LATE.as_slice())?;
-    go(&target, &mut rig)?;
-    let (_, served, clashes, found) = rig.manager.into_parts();
-    assert!(rt; are_asks_of(served.as_slice(), OUT_OF_ORDER.as_slice()));
-    assert!(rt; clashes.as_slice() == CLASHES.as_slice());
-    assert!(rt; found.as_slice() == FOUND.as_slice());
-    Ok(())
-}
-
-/// Once all clocks are 1, a leg raises global time to 1, and ends there however much patience it has.
-#[test]
-fn global_time_rises(rt: HostRuntime) -> Result<(), Fail> {
-    let target = Trio::new();
-    let mut rig = rigged(rt.alloc(), 1)?;
-    for pacer in rig.pacers.iter_mut() {
-        assert!(rt; pacer.may_advance() && pacer.clock() < TOP);
-        pacer.advance();
-    }
-    rig.manager.leg(&target, 1, 4_294_967_295)?;
-    for pacer in rig.pacers.iter_mut() {
-        assert_eq!(rt; pacer.observe(), 1);
-    }
-    Ok(())
+fn a_leg_serves_what_waits(rt: HostRuntime) {
+    let mut manager = asked(rt.alloc()).expect(&rt, "memory");
+    manager.leg(&Trio::new(), 10, 0).expect(&rt, "memory");
+    let (_, served, clashes, found) = manager.into_parts();
+    assert!(rt; served.as_slice() == [ask_of(1, 2), ask_of(2, 1), ask_of(3, 0)].as_slice());
+    assert!(rt; clashes.len() == 3 && found.is_empty());
 }
 
 fn crosses<X: Send>() {}
 
-/// This is proved, or no test of the crate runs.
+/// This is proved, or no manager could go to another thread.
 #[test]
 fn a_manager_goes_to_another_thread(_rt: HostRuntime) {
     crosses::<Manager<TrioChan>>();

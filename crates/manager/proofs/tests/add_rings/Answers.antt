@@ -8,13 +8,11 @@ use Rattle.stamp_queue.specs.declared.senders.Sender.{Sender}
 use Rattle.manager.proofs.tests.add_rings.Goals as goal
 
 pub returns-clause-unused : goal.returns-clause-unused
-returns-clause-unused c =
-    let unused = c.requires.unused in
-    record {
-      receivers =
-          subst (All (λ (a : Receiver Ask). all_received a ≡ [])) (sym c.in_ok-push-2.ensures.ok)
-          (All-push (λ (a : Receiver Ask). all_received a ≡ []) c.args.receivers.now c.in_ok-sender.receiver unused.receivers c.in_ok-sender.ensures.receiver.0);
-      senders =
-          subst (All (λ (s : Sender Post). all_sent s ≡ [])) (sym c.in_ok-push-3.ensures.ok)
-          (All-push (λ (s : Sender Post). all_sent s ≡ []) c.args.senders.now c.in_ok-sender-2.sender unused.senders c.in_ok-sender-2.ensures.sender.0);
-    }
+returns-clause-unused c = record {
+  receivers =
+      subst (All (λ (a : Receiver Ask). all_received a ≡ [])) (sym c.in_ok-push.ensures.ok)
+      (All-push (λ (a : Receiver Ask). all_received a ≡ []) c.args.asks.now c.in_ok-ring_of.field-0 c.requires.receivers c.in_ok-ring_of.ensures);
+  senders =
+      subst (All (λ (s : Sender Post). all_sent s ≡ [])) (sym c.in_ok-push-2.ensures.ok)
+      (All-push (λ (s : Sender Post). all_sent s ≡ []) c.args.posts.now c.in_ok-sender.sender c.requires.senders c.in_ok-sender.ensures.sender.0);
+}

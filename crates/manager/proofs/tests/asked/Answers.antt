@@ -1,0 +1,24 @@
+use Rattle.std.proofs.Common.{◌≡◌, List, [], ◌∷◌, refl, ap, map, length, subst, sym, arith}
+use Rattle.std.proofs.lemmas.Result.{IfOk-weaker}
+use Rattle.target_law.specs.Numbered.{AllNumbered}
+use Rattle.target_law.specs.Proper.{IsChanOf}
+use Rattle.target_law.specs.Trio.{TrioChannel, trio_rules, trio_owns, trio_values, first_chan}
+use Rattle.manager.specs.Managers.{IsReadyManager}
+use Rattle.manager.specs.Openings.{IsOpening}
+use Rattle.manager.proofs.Opened.{all_ready_openings}
+use Rattle.manager.proofs.tests.asked.Goals as goal
+
+own : AllNumbered (IsChanOf trio_rules trio_owns) 0 (map trio_values.chan (first_chan 0 ∷ []))
+own = (record { own = omega arith; number = refl }, tt)
+
+pub returns : goal.returns
+returns c =
+    let only : c.in_ok-chans.chans ≡ first_chan 0 ∷ [] = c.in_ok-chans.ensures in
+    IfOk-weaker c.new.result (IsOpening c.in_ok-chans.chans c.in_ok-asks.asks c.in_ok-asks.posts c.in_ok-overseer.overseer) (IsReadyManager trio_rules trio_owns trio_values)
+    (λ m is. (all_ready_openings trio_rules trio_owns trio_values c.in_ok-chans.chans c.in_ok-asks.asks c.in_ok-asks.posts c.in_ok-overseer.overseer m is c.in_ok-asks.ensures.unused (record {
+      chan_count = ap length only;
+      own_chans = subst (λ (chans : List TrioChannel). AllNumbered (IsChanOf trio_rules trio_owns) 0 (map trio_values.chan chans)) (sym only) own;
+      rings = c.in_ok-asks.ensures.count.0;
+      clocks = c.in_ok-overseer.ensures;
+    })).ready)
+    c.new.ensures
