@@ -1,4 +1,4 @@
-mod Closed
+pub mod Closed
 pub mod Driven
 pub mod Ending
 pub mod Onlys

@@ -11,12 +11,14 @@ use Rattle.target_law.specs.Runs.{Step, IsExact}
 use Rattle.violation_watch.specs.BoundedNotes.{IsBoundedBy}
 use Rattle.drive_script.specs.Scripts.{IsScriptOf}
 use Rattle.pacing.specs.Pieces.{IsPieces}
+use Rattle.io_edge.specs.Holds.{Holds}
+use Rattle.drift_run.specs.BoundedRuns.{IsHolding}
 
 -- the modes that are there
 abbrev pub is_built : Mode → Bool
 is_built Lockstep = true
 is_built Quantum = true
-is_built Bounded = false
+is_built Bounded = true
 is_built Speculative = false
 is_built Script = true
 
@@ -37,10 +39,10 @@ limit_in Bounded config = config.limit
 limit_in Speculative config = config.limit
 limit_in Script config = min config.interval config.limit
 
--- what an interval may do; in a mode that isn't there, nothing
-abbrev pub step_in : {Inner Chan : Type 0} → (rules : Rules Inner Chan) → Mode → RawConfig → List GivenStep → Step rules
-step_in rules Lockstep config steps = IsExact rules
-step_in rules Quantum config steps = IsBoundedBy rules (IsPieces rules config.quantum)
-step_in rules Bounded config steps = λ notes k s added e. ⊥
-step_in rules Speculative config steps = λ notes k s added e. ⊥
-step_in rules Script config steps = IsBoundedBy rules (IsScriptOf rules steps)
+-- what an interval may do, under a gate that holds cores so; in a mode that isn't there, nothing
+abbrev pub step_in : {Inner Chan : Type 0} → (rules : Rules Inner Chan) → Holds → Mode → RawConfig → List GivenStep → Step rules
+step_in rules holds Lockstep config steps = IsExact rules
+step_in rules holds Quantum config steps = IsBoundedBy rules (IsPieces rules config.quantum)
+step_in rules holds Bounded config steps = IsBoundedBy rules (IsHolding rules holds config.slack)
+step_in rules holds Speculative config steps = λ notes k s added e. ⊥
+step_in rules holds Script config steps = IsBoundedBy rules (IsScriptOf rules steps)

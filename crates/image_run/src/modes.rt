@@ -1,5 +1,5 @@
 //! A run in each of the modes, of any machine.
-ghost use Rattle.std.specs.Prelude.{◌≡◌, ◌+◌, ◌-◌, ◌<◌, ◌≤◌, [], All, IfOk, IsTrue, sum_by};
+ghost use Rattle.std.specs.Prelude.{◌≡◌, ◌+◌, ◌-◌, ◌<◌, ◌≤◌, [], IfOk, IsTrue, sum_by};
 ghost use Rattle.slack_base.specs.declared.bounds.TheConstants.{TOP};
 ghost use Rattle.slack_base.specs.Numbers.{numbers_of};
 ghost use Rattle.bus_model.specs.Laws.{lookahead_of};
@@ -7,15 +7,17 @@ ghost use Rattle.bus_model.specs.Settings.{delays_of};
 ghost use Rattle.target_law.specs.Proper.{IsProper, IsPunctual};
 ghost use Rattle.target_law.specs.Runs.{Ends, IsExact, IsExactEnd};
 ghost use Rattle.target_law.specs.Views.{state_of};
-ghost use Rattle.violation_watch.specs.BoundedNotes.{IsBoundedBy};
 ghost use Rattle.drive_script.specs.Scripts.{IsScriptOf};
-ghost use Rattle.pacing.specs.Exact.{IsExactIfShort, seen_of};
-ghost use Rattle.pacing.specs.Pieces.{IsPieces};
-ghost use Rattle.image_run.specs.Ends.{IsLockstepAt};
-ghost use Rattle.image_run.specs.Modes.{is_built, is_exact, limit_in, step_in};
+ghost use Rattle.pacing.specs.Exact.{IsExactIfShort};
+ghost use Rattle.pacing.specs.QuantumRuns.{IsQuantumRun};
+ghost use Rattle.drift_run.specs.BoundedRuns.{IsBoundedRun};
+ghost use Rattle.image_run.specs.Ends.{IsExactIn, IsQuietIn, IsRunFrom, RunsBy};
+ghost use Rattle.image_run.specs.Modes.{is_built};
 ghost use Rattle.image_run.specs.Ticks.{cycles_of};
 
+use drift_run::{Pace, bounded_run};
 use drive_script::script_run;
+use io_edge::Gate;
 use pacing::quantum_run;
 use sim_words::Mode;
 use slack_base::{Config, NoteList, OutOfMemory, StepList};
@@ -27,13 +29,17 @@ use target_law::{Bounded, State, Target, run};
 pub fn is_built(mode: Mode) -> bool
     ensures { result ≡ is_built mode }
 {
-    matches!(mode, Mode::Lockstep | Mode::Quantum | Mode::Script)
+    matches!(
+        mode,
+        Mode::Lockstep | Mode::Quantum | Mode::Bounded | Mode::Script
+    )
 }
 
 /// A run from clock 0 in a mode that is there, by these steps if it is of a given interleaving.
-pub fn run_in_mode<R: Threads + Sync, T: Target + Sync>(
+pub fn run_in_mode<R: Threads + Sync, T: Target + Sync, G: Gate + Sync>(
     rt: &R,
     alloc: Global,
+    gate: &G,
     target: &T,
     state: State<T>,
     config: &Config,
@@ -45,10 +51,10 @@ pub fn run_in_mode<R: Threads + Sync, T: Target + Sync>(
     requires lookahead { (T.rules target.now).lookahead ≡ lookahead_of (delays_of (numbers_of config.now)) }
     requires proper { IsProper (T.rules target.now) (T.owns target.now) (state_of T.values state) }
     requires punctual { IsPunctual (state_of T.values state) }
-    ensures ends { IfOk result (λ r. Ends (T.rules target.now) config.now.interval (limit_in mode (numbers_of config.now)) (step_in (T.rules target.now) mode (numbers_of config.now) steps.now) (state_of T.values state) r.notes (state_of T.values r.end)) }
-    ensures exact { IfOk result (λ r. IsTrue (is_exact mode (numbers_of config.now)) → IsLockstepAt (T.rules target.now) config.now.interval config.now.limit (state_of T.values state) (state_of T.values r.end)) }
+    ensures ends { IfOk result (λ r. IsRunFrom (T.rules target.now) (record { may = G.may_hold gate.now; must = G.must_hold gate.now }) (numbers_of config.now) mode steps.now (state_of T.values state) r.notes (state_of T.values r.end)) }
+    ensures exact { IfOk result (λ r. IsExactIn (T.rules target.now) (numbers_of config.now) mode (state_of T.values state) (state_of T.values r.end)) }
     ensures silent { IfOk result (λ r. mode ≡ Mode.Lockstep → r.notes ≡ []) }
-    ensures quiet { IfOk result (λ r. mode ≡ Mode.Quantum → IsTrue (is_exact mode (numbers_of config.now)) → All (λ note. seen_of note ≡ []) r.notes) }
+    ensures quiet { IfOk result (λ r. IsQuietIn (numbers_of config.now) mode r.notes) }
     ensures few { IfOk result (λ r. sum_by cycles_of r.notes ≤ config.now.limit) }
     ensures proper { IfOk result (λ r. IsProper (T.rules target.now) (T.owns target.now) (state_of T.values r.end)) }
 {
@@ -66,7 +72,17 @@ pub fn run_in_mode<R: Threads + Sync, T: Target + Sync>(
             u64::from(config.quantum),
         ),
         Mode::Script => run_script(alloc, target, state, interval, interval.min(limit), steps),
-        Mode::Bounded | Mode::Speculative => unreachable!(),
+        Mode::Bounded => run_bounded(
+            rt,
+            alloc,
+            gate,
+            target,
+            state,
+            interval,
+            limit,
+            u64::from(config.slack),
+        ),
+        Mode::Speculative => unreachable!(),
     }
 }
 
@@ -108,12 +124,45 @@ pub fn run_quantum<R: Threads + Sync, T: Target + Sync>(
     requires interval { 1 ≤ interval }
     requires quantum { 1 ≤ quantum }
     requires proper { IsProper (T.rules target.now) (T.owns target.now) (state_of T.values state) }
-    ensures ends { IfOk result (λ r. Ends (T.rules target.now) interval limit (IsBoundedBy (T.rules target.now) (IsPieces (T.rules target.now) quantum)) (state_of T.values state) r.notes (state_of T.values r.end)) }
+    ensures ends { IfOk result (λ r. IsQuantumRun (T.rules target.now) quantum interval limit (state_of T.values state) r.notes (state_of T.values r.end)) }
     ensures exact { IfOk result (λ r. IsExactIfShort (T.rules target.now) interval limit quantum (state_of T.values state) r.notes (state_of T.values r.end)) }
     ensures few { IfOk result (λ r. sum_by cycles_of r.notes ≤ limit) }
     ensures proper { IfOk result (λ r. IsProper (T.rules target.now) (T.owns target.now) (state_of T.values r.end)) }
 {
     quantum_run(rt, alloc, target, state, interval, limit, quantum)
+}
+
+/// How many idle turns in a row a leg of a drift by threads makes at the most, and how many slots its rings have.
+const PATIENCE: u32 = 65_536;
+
+const SLOTS: u32 = 256;
+
+/// A run of drifts by threads, in which no core is ahead of global time by more than the slack.
+pub fn run_bounded<R: Threads + Sync, T: Target + Sync, G: Gate + Sync>(
+    rt: &R,
+    alloc: Global,
+    gate: &G,
+    target: &T,
+    state: State<T>,
+    interval: u64,
+    limit: u64,
+    slack: u64,
+) -> Result<Bounded<T>, OutOfMemory>
+    requires begins { state.clock ≤ limit }
+    requires top { limit ≤ TOP }
+    requires interval { 1 ≤ interval }
+    requires slack { (1 ≤ slack) × (slack ≤ TOP) }
+    requires proper { IsProper (T.rules target.now) (T.owns target.now) (state_of T.values state) }
+    ensures ends { IfOk result (λ r. IsBoundedRun (T.rules target.now) (record { may = G.may_hold gate.now; must = G.must_hold gate.now }) slack interval limit (state_of T.values state) r.notes (state_of T.values r.end)) }
+    ensures few { IfOk result (λ r. sum_by cycles_of r.notes ≤ limit) }
+    ensures proper { IfOk result (λ r. IsProper (T.rules target.now) (T.owns target.now) (state_of T.values r.end)) }
+{
+    let pace = Pace {
+        slack,
+        patience: PATIENCE,
+        slots: SLOTS,
+    };
+    bounded_run(rt, alloc, target, state, interval, limit, &pace, gate)
 }
 
 /// A run in a given interleaving, which is of one interval.
@@ -129,7 +178,7 @@ pub fn run_script<T: Target>(
     requires top { limit ≤ TOP }
     requires one { limit ≤ state.clock + interval }
     requires proper { IsProper (T.rules target.now) (T.owns target.now) (state_of T.values state) }
-    ensures ends { IfOk result (λ r. Ends (T.rules target.now) interval limit (IsBoundedBy (T.rules target.now) (IsScriptOf (T.rules target.now) steps.now)) (state_of T.values state) r.notes (state_of T.values r.end)) }
+    ensures ends { IfOk result (λ r. RunsBy (T.rules target.now) (IsScriptOf (T.rules target.now) steps.now) interval limit (state_of T.values state) r.notes (state_of T.values r.end)) }
     ensures cycles { IfOk result (λ r. sum_by cycles_of r.notes ≡ limit - state.clock) }
     ensures proper { IfOk result (λ r. IsProper (T.rules target.now) (T.owns target.now) (state_of T.values r.end)) }
 {

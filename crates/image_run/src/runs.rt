@@ -11,6 +11,7 @@ ghost use Rattle.image_run.specs.Ticks.{drift_ticks_of, replay_ticks_of};
 
 use crate::modes::run_in_mode;
 use crate::ticks::{drift_ticks, replay_ticks};
+use io_edge::Gate;
 use lockstep_model::{Machine, RvTarget, start};
 use sim_words::Mode;
 use slack_base::{Config, Image, NoteList, OutOfMemory, StepList};
@@ -30,9 +31,10 @@ pub struct Ran {
 
 /// Runs an image in a mode that is there, by these steps if it is of a given interleaving, to the checkpoint where the run
 /// stops.
-pub fn run_image<R: Threads + Sync>(
+pub fn run_image<R: Threads + Sync, G: Gate + Sync>(
     rt: &R,
     alloc: Global,
+    gate: &G,
     config: &Config,
     mode: Mode,
     steps: &StepList,
@@ -40,14 +42,16 @@ pub fn run_image<R: Threads + Sync>(
 ) -> Result<Ran, OutOfMemory>
     requires image { Fits config.now.base config.now.memory image.now }
     requires mode { IsTrue (is_built mode) }
-    ensures end { IfOk result (λ r. IsRunEnd (numbers_of config.now) mode steps.now image.now r.notes (machine_of r.machine)) }
+    ensures end { IfOk result (λ r. IsRunEnd (record { may = G.may_hold gate.now; must = G.must_hold gate.now }) (numbers_of config.now) mode steps.now image.now r.notes (machine_of r.machine)) }
     ensures proper { IfOk result (λ r. IsProper (rules_for (numbers_of config.now) image.now) (owns_of (numbers_of config.now)) (machine_of r.machine)) }
     ensures drift_ticks { IfOk result (λ r. r.drift_ticks ≡ drift_ticks_of config.now.cores r.notes) }
     ensures replay_ticks { IfOk result (λ r. r.replay_ticks ≡ replay_ticks_of config.now.cores r.notes) }
 {
     let target = RvTarget::make(alloc, *config, image)?;
     let machine = start(alloc, &target, image)?;
-    let Bounded { end, notes } = run_in_mode(rt, alloc, &target, machine, config, mode, steps)?;
+    let Bounded { end, notes } = run_in_mode(
+        rt, alloc, gate, &target, machine, config, mode, steps,
+    )?;
     let drift_ticks = drift_ticks(config.cores, &notes);
     let replay_ticks = replay_ticks(config.cores, &notes);
     Ok(Ran {

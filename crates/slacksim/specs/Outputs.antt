@@ -13,30 +13,31 @@ use Rattle.sim_words.specs.declared.commands.Command.{Command}
 use Rattle.sim_words.specs.declared.commands.Command.TheVariants as command
 use Rattle.stat_report.specs.Listing.{IsListing}
 use Rattle.workload_gen.specs.Programs.{IsProgram}
+use Rattle.io_edge.specs.Holds.{Holds}
 use Rattle.image_run.specs.Ends.{IsRunEnd}
 use Rattle.slacksim.specs.Inputs.{image_told}
 use Rattle.slacksim.specs.RunValues.{RunValue, no_run, run_of}
 use Rattle.slacksim.specs.Texts.{run_text, gen_line}
 
--- the image was run in the order's mode, and left this machine and these notes
-abbrev pub IsRun : OrderValue → Image → List Interval → StateValue HartValue ChannelValue → Type 0
-IsRun order image notes machine = IsRunEnd order.numbers order.mode order.steps image notes machine
+-- the image was run in the order's mode, under a gate that holds cores so, and left this machine and these notes
+abbrev pub IsRun : Holds → OrderValue → Image → List Interval → StateValue HartValue ChannelValue → Type 0
+IsRun holds order image notes machine = IsRunEnd holds order.numbers order.mode order.steps image notes machine
 
 -- `run`: the image that the input gives was run, and the text is the run's
-pub record IsRunOutput (order : OrderValue) (input : List ℕ) (run : RunValue) (text : List ℕ) : Type 0 where
+pub record IsRunOutput (holds : Holds) (order : OrderValue) (input : List ℕ) (run : RunValue) (text : List ℕ) : Type 0 where
   pub machine : StateValue HartValue ChannelValue
   pub notes : List Interval
-  pub ran : IsOkAnd (image_told order.numbers input) (λ image. IsRun order image notes machine)
+  pub ran : IsOkAnd (image_told order.numbers input) (λ image. IsRun holds order image notes machine)
   pub hands_back : run ≡ run_of order.numbers.cores notes machine
   pub whole : text ≡ run_text order machine run
 
 -- `gen`: the program of the seed was run, and the text is the run's behind a line that names the seed
-pub record IsGenOutput (order : OrderValue) (run : RunValue) (text : List ℕ) : Type 0 where
+pub record IsGenOutput (holds : Holds) (order : OrderValue) (run : RunValue) (text : List ℕ) : Type 0 where
   pub machine : StateValue HartValue ChannelValue
   pub notes : List Interval
   pub image : Image
   pub program : IsProgram order.seed order.numbers.base image
-  pub ran : IsRun order image notes machine
+  pub ran : IsRun holds order image notes machine
   pub hands_back : run ≡ run_of order.numbers.cores notes machine
   pub whole : text ≡ gen_line order.seed ++ run_text order machine run
 
@@ -53,11 +54,11 @@ pub record IsListOutput (order : OrderValue) (input : List ℕ) (run : RunValue)
   pub listed : IsOkAnd (image_told order.numbers input) (λ image. IsListing image text)
 
 -- what a command hands back, and the text that it writes
-abbrev pub IsOutputBy : Command → OrderValue → (input : List ℕ) → RunValue → (text : List ℕ) → Type 0
-IsOutputBy command.Run order input run text = IsRunOutput order input run text
-IsOutputBy command.Gen order input run text = IsGenOutput order run text
-IsOutputBy command.Asm order input run text = IsAsmOutput order input run text
-IsOutputBy command.List order input run text = IsListOutput order input run text
+abbrev pub IsOutputBy : Command → Holds → OrderValue → (input : List ℕ) → RunValue → (text : List ℕ) → Type 0
+IsOutputBy command.Run holds order input run text = IsRunOutput holds order input run text
+IsOutputBy command.Gen holds order input run text = IsGenOutput holds order run text
+IsOutputBy command.Asm holds order input run text = IsAsmOutput order input run text
+IsOutputBy command.List holds order input run text = IsListOutput order input run text
 
-abbrev pub IsOutput : OrderValue → (input : List ℕ) → RunValue → (text : List ℕ) → Type 0
-IsOutput order input run text = IsOutputBy order.command order input run text
+abbrev pub IsOutput : Holds → OrderValue → (input : List ℕ) → RunValue → (text : List ℕ) → Type 0
+IsOutput holds order input run text = IsOutputBy order.command holds order input run text

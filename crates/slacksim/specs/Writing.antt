@@ -1,5 +1,6 @@
 -- What a call wrote.
 use Rattle.std.specs.Prelude.{◌≡◌, ℕ, List, Option}
+use Rattle.io_edge.specs.Holds.{Holds}
 use Rattle.io_edge.specs.Streams.{with_after}
 use Rattle.io_edge.specs.Whole.{AppendsFront}
 use Rattle.sim_words.specs.OrderValues.{OrderValue}
@@ -17,9 +18,9 @@ IsWritten WriteFault written written_after text = AppendsFront written written_a
 IsWritten _ written written_after text = ⊥
 
 -- a call read its input, and handed back and wrote what its command makes of it
-pub record Wrote (order : OrderValue) (answer : Answer) (run : RunValue) (left left_after written written_after : Option (List ℕ)) : Type 0 where
+pub record Wrote (holds : Holds) (order : OrderValue) (answer : Answer) (run : RunValue) (left left_after written written_after : Option (List ℕ)) : Type 0 where
   pub input : List ℕ
   pub read : IsInput order.command left left_after input
   pub text : List ℕ
-  pub output : IsOutput order input run text
+  pub output : IsOutput holds order input run text
   pub is_written : IsWritten answer written written_after text

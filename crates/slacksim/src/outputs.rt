@@ -19,6 +19,7 @@ use crate::runs::run_by;
 use crate::texts::{text_of_gen, text_of_run};
 use image_load::{ImageError, flat_bytes, read_image};
 use image_run::Ran;
+use io_edge::Gate;
 use lockstep_model::Machine;
 use rv_asm::{AsmError, assemble};
 use sim_words::{Command, Order};
@@ -48,63 +49,66 @@ impl From<OutOfMemory> for Answer {
 }
 
 /// What the command of an order makes of its input, or the answer for an input that has a fault.
-pub fn output_of<R: Threads + Sync>(
+pub fn output_of<R: Threads + Sync, G: Gate + Sync>(
     rt: &R,
     alloc: Global,
+    gate: &G,
     order: &Order,
     input: &[u8],
 ) -> Result<Output, Answer>
     requires mode { IsTrue (is_built order.now.mode) }
     requires short { length input.now < 2 ^ 32 }
     requires room { order.now.command ≡ Command.Gen → GENERATED_MEMORY ≤ order.now.config.memory }
-    ensures output { IfOk result (λ out. IsOutputBy order.now.command (order_value order.now) input.now (run_value out.run) out.text) }
+    ensures output { IfOk result (λ out. IsOutputBy order.now.command (record { may = G.may_hold gate.now; must = G.must_hold gate.now }) (order_value order.now) input.now (run_value out.run) out.text) }
     ensures answer { IfOk result (λ out. out.answer ≡ answer_at (run_value out.run).end) }
     ensures whole { IfOk result (λ out. IsWhole out.answer) }
     ensures accepted { IfOk result (λ _. refusal_by order.now.command (numbers_of order.now.config) input.now ≡ None) }
     ensures refused { IfErr result (IsRefusedBy (refusal_by order.now.command (numbers_of order.now.config) input.now)) }
 {
     match order.command {
-        Command::Run => run_output(rt, alloc, order, input),
-        Command::Gen => Ok(gen_output(rt, alloc, order)?),
+        Command::Run => run_output(rt, alloc, gate, order, input),
+        Command::Gen => Ok(gen_output(rt, alloc, gate, order)?),
         Command::Asm => asm_output(alloc, order, input),
         Command::List => list_output(alloc, order, input),
     }
 }
 
 /// `run`: the image that the input gives is run.
-fn run_output<R: Threads + Sync>(
+fn run_output<R: Threads + Sync, G: Gate + Sync>(
     rt: &R,
     alloc: Global,
+    gate: &G,
     order: &Order,
     input: &[u8],
 ) -> Result<Output, Answer>
     requires { IsTrue (is_built order.now.mode) }
-    ensures output { IfOk result (λ out. IsRunOutput (order_value order.now) input.now (run_value out.run) out.text) }
+    ensures output { IfOk result (λ out. IsRunOutput (record { may = G.may_hold gate.now; must = G.must_hold gate.now }) (order_value order.now) input.now (run_value out.run) out.text) }
     ensures answer { IfOk result (λ out. out.answer ≡ answer_at (run_value out.run).end) }
     ensures whole { IfOk result (λ out. IsWhole out.answer) }
     ensures accepted { IfOk result (λ _. image_refusal (image_told (numbers_of order.now.config) input.now) ≡ None) }
     ensures refused { IfErr result (IsRefusedBy (image_refusal (image_told (numbers_of order.now.config) input.now))) }
 {
     let image = image_in(alloc, &order.config, input)?;
-    let ran = run_by(rt, alloc, order, &image)?;
+    let ran = run_by(rt, alloc, gate, order, &image)?;
     let text = text_of_run(alloc, order, &ran)?;
     Ok(ended(text, ran))
 }
 
 /// `gen`: the program of the seed is run.
-fn gen_output<R: Threads + Sync>(
+fn gen_output<R: Threads + Sync, G: Gate + Sync>(
     rt: &R,
     alloc: Global,
+    gate: &G,
     order: &Order,
 ) -> Result<Output, OutOfMemory>
     requires mode { IsTrue (is_built order.now.mode) }
     requires room { GENERATED_MEMORY ≤ order.now.config.memory }
-    ensures output { IfOk result (λ out. IsGenOutput (order_value order.now) (run_value out.run) out.text) }
+    ensures output { IfOk result (λ out. IsGenOutput (record { may = G.may_hold gate.now; must = G.must_hold gate.now }) (order_value order.now) (run_value out.run) out.text) }
     ensures answer { IfOk result (λ out. out.answer ≡ answer_at (run_value out.run).end) }
     ensures whole { IfOk result (λ out. IsWhole out.answer) }
 {
     let image = program(alloc, order.seed, &order.config)?;
-    let ran = run_by(rt, alloc, order, &image)?;
+    let ran = run_by(rt, alloc, gate, order, &image)?;
     let text = text_of_gen(alloc, order, &ran)?;
     Ok(ended(text, ran))
 }

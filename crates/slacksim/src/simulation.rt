@@ -30,7 +30,7 @@ pub fn simulate<R: Threads + Sync, S: Source, W: Sink, G: Gate + Sync>(
     words: &[Arg],
     source: &mut S,
     sink: &mut W,
-    _gate: &G,
+    gate: &G,
 ) -> Finish
     // Words with a fault are refused for it, and nothing else is refused so; then nothing is read or written. An order
     // in a mode that isn't there may be answered by want of memory too.
@@ -50,7 +50,7 @@ pub fn simulate<R: Threads + Sync, S: Source, W: Sink, G: Gate + Sync>(
     // The text that was written, or a front of it, is what the command makes of all that the source told; and so are the
     // machine at the end, the notes and the counts of ticks that are handed back.
     ensures output { HasOutput result.answer → IsOkAnd (order_of words.now) (λ order.
-        Wrote order result.answer (run_in result) (S.left source.old) (S.left source.new) (W.written sink.old) (W.written sink.new)) }
+        Wrote (record { may = G.may_hold gate.now; must = G.must_hold gate.now }) order result.answer (run_in result) (S.left source.old) (S.left source.new) (W.written sink.old) (W.written sink.new)) }
     ensures answer { HasOutput result.answer → (result.answer ≡ Answer.WriteFault) ⊎ (result.answer ≡ answer_at (run_in result).end) }
     ensures write_fault { result.answer ≡ Answer.WriteFault → Rose (W.faults sink.old) (W.faults sink.new) }
     ensures nothing_written { ¬ HasOutput result.answer → (sink.new ≡ sink.old) × (run_in result ≡ no_run) }
@@ -76,7 +76,7 @@ pub fn simulate<R: Threads + Sync, S: Source, W: Sink, G: Gate + Sync>(
         Ok(input) => input,
         Err(answer) => return refused(alloc, answer),
     };
-    match output_of(rt, alloc, &order, input.as_slice()) {
+    match output_of(rt, alloc, gate, &order, input.as_slice()) {
         Ok(output) => write_output(alloc, output, sink),
         Err(answer) => refused(alloc, answer),
     }

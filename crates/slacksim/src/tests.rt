@@ -3,7 +3,7 @@ ghost use Rattle.std.specs.Prelude.{◌<◌};
 
 use crate::answers::{Answer, Finish};
 use crate::simulation::simulate;
-use io_edge::{MemorySink, MemorySource, NeverHold};
+use io_edge::{Gate, MemorySink, MemorySource, NeverHold};
 use slack_base::{Arg, Row};
 use std::alloc::Global;
 use std::process::Abort;
@@ -20,6 +20,7 @@ mod faults;
 mod pieces;
 mod programs;
 mod sharing;
+mod threads;
 
 /// What a call answered, and what it wrote.
 #[derive(Drop)]
@@ -53,6 +54,19 @@ pub fn call_over<R: Threads + Sync + AllocGlobal>(
 ) -> Result<Outcome, Fail>
     requires { 0 < streams.step }
 {
+    call_under(rt, words, input, streams, &NeverHold)
+}
+
+/// Runs a call over streams in memory, under a gate.
+pub fn call_under<R: Threads + Sync + AllocGlobal, G: Gate + Sync>(
+    rt: &R,
+    words: &[&str],
+    input: &[u8],
+    streams: Streams<'_>,
+    gate: &G,
+) -> Result<Outcome, Fail>
+    requires { 0 < streams.step }
+{
     let alloc = rt.alloc();
     let mut given = Vec::new(alloc);
     for word in words {
@@ -63,14 +77,7 @@ pub fn call_over<R: Threads + Sync + AllocGlobal>(
     let sink_fails = Row::of(Vec::from_slice(alloc, streams.sink_fails)?);
     let mut source = MemorySource::make(bytes, streams.step, source_fails);
     let mut sink = MemorySink::make(alloc, streams.room, streams.step, sink_fails)?;
-    let finish = simulate(
-        rt,
-        alloc,
-        given.as_slice(),
-        &mut source,
-        &mut sink,
-        &NeverHold,
-    );
+    let finish = simulate(rt, alloc, given.as_slice(), &mut source, &mut sink, gate);
     let text = Vec::from_slice(alloc, sink.written())?;
     Ok(Outcome { finish, text })
 }

@@ -3,6 +3,7 @@ use Rattle.slack_base.specs.Numbers.{numbers_of}
 use Rattle.target_law.specs.Proper.{IsProper}
 use Rattle.target_law.specs.Runs.{Ends}
 use Rattle.target_law.specs.Views.{state_of}
+use Rattle.io_edge.specs.Holds.{Holds}
 use Rattle.lockstep_model.specs.Rules.{rules_of, owns_of, stored_values}
 use Rattle.lockstep_model.specs.Start.{start_of}
 use Rattle.lockstep_model.specs.Views.{machine_of}
@@ -32,6 +33,7 @@ replay_ticks-replay_ticks-requires-clause-product g c =
 pub returns-clause-end : goal.returns-clause-end
 returns-clause-end g c =
     let config = numbers_of c.args.config.now in
+    let holds : Holds = record { may = g.G.Gate.may_hold c.args.gate.now; must = g.G.Gate.must_hold c.args.gate.now } in
     let mode = c.args.mode in
     let steps = c.args.steps.now in
     let image = c.args.image.now in
@@ -46,7 +48,7 @@ returns-clause-end g c =
     machine_is before ∙ c.in_ok-machine.ensures.state ∙ ap (λ k. start_of (numbers_of k) image) made.config in
     let ran = c.in_ok-end.ensures in
     record {
-      ends = moved (λ R s e. Ends R config.interval (limit_in mode config) (step_in R mode config steps) s notes e)
+      ends = moved (λ R s e. Ends R config.interval (limit_in mode config) (step_in R holds mode config steps) s notes e)
           _ _ _ _ _ _ same_rules same_state (machine_is after) ran.ends;
       exact = λ is.
           let at : IsLockstepAt (rules_for config image) config.interval config.limit (start_of config image) (machine_of after) =
