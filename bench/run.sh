@@ -31,7 +31,7 @@ done
 # The same in quantum mode, four cores, in intervals of 100,000 cycles, up to a limit of 1,000,000.
 printf '%-10s %8s %12s %8s %15s %8s\n' loop quantum core-cycles seconds core-cycles/s peak-KB
 for loop in loop private shared; do
-    for quantum in 2 16 256 4095 4096 16384; do
+    for quantum in 2 16 256 65535 65536 100000; do
         read -r seconds memory <<<"$(for _ in 1 2 3; do
             { /usr/bin/time -f '%e %M' "$top/slacksim" run --cores 4 --limit 1000000 --interval 100000 --mode quantum --quantum "$quantum" \
                 <"$top/bench/$loop.slk1" >/dev/null; } 2>&1 | tail -n 1

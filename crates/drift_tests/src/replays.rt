@@ -10,11 +10,10 @@ ghost use Rattle.bus_model.specs.Settings.{setting_of};
 use crate::machines::{STORES, are_same_channels, are_same_cores, config_of, image_of};
 use bus_model::Channel;
 use drive_script::drive;
-use lockstep_model::{RvTarget, start};
-use slack_base::{Ask, AskList, ClashList, Config, Image, PostKind, PostList, TOP, Taken};
+use lockstep_model::{Machine, RvTarget, start};
+use slack_base::{Ask, AskList, ClashList, Config, Drift, Image, PostKind, PostList, TOP, Taken};
 use std::process::Abort;
 use std::test::Fail;
-use target_law::Drifted;
 use timed_core::{Code, TimedCore};
 use violation_watch::scan;
 use workload_gen::steps;
@@ -46,14 +45,14 @@ fn check_core<R: Abort + AllocGlobal>(
     config: &Config,
     code: &Code,
     number: u32,
-    drifted: &Drifted<RvTarget>,
+    drift: &Drift,
+    end: &TimedCore,
 ) -> Result<(), Fail>
     requires { number < config.now.cores }
 {
     let mut core = TimedCore::new(rt.alloc(), number, config, 0)?;
     let mut asks = AskList::new(rt.alloc());
-    let taken = drifted
-        .drift
+    let taken = drift
         .sent
         .get(number as usize)
         .expect(rt, "a list for each core");
@@ -62,17 +61,36 @@ fn check_core<R: Abort + AllocGlobal>(
         core.tick(code, clock, &mut asks)?;
     }
     take_at(rt, &mut core, taken.as_slice(), CYCLES)?;
-    let served = drifted.drift.served.as_slice();
+    let served = drift.served.as_slice();
     let own = served.iter().filter(|ask| ask.id().core == number);
     assert!(rt; own.eq(asks.as_slice().iter()));
-    let end = drifted
-        .end
-        .cores
-        .get(number as usize)
-        .expect(rt, "a core of each number");
     assert!(rt; are_same_cores(&core, end));
     assert!(rt; are_clocks(taken.as_slice()));
     Ok(())
+}
+
+/// A drift of two cores, gone through once more.
+pub fn check<R: Abort + AllocGlobal>(
+    rt: &R,
+    config: &Config,
+    image: &Image,
+    code: &Code,
+    drift: &Drift,
+    end: &Machine,
+) -> Result<(), Fail>
+    requires cores { config.now.cores ≡ 2 }
+    requires image { Fits config.now.base config.now.memory image.now }
+    requires one { config.now.buses ≡ 1 }
+{
+    for number in 0..2 {
+        let core = end
+            .cores
+            .get(number as usize)
+            .expect(rt, "a core of each number");
+        check_core(rt, config, code, number, drift, core)?;
+    }
+    let bus = end.chans.get(0).expect(rt, "a bus");
+    check_bus(rt, config, image, drift, bus)
 }
 
 /// Whether the clocks never fall, and come to the end at most.
@@ -92,7 +110,8 @@ fn check_bus<R: Abort + AllocGlobal>(
     rt: &R,
     config: &Config,
     image: &Image,
-    drifted: &Drifted<RvTarget>,
+    drift: &Drift,
+    end: &Channel,
 ) -> Result<(), Fail>
     requires image { Fits config.now.base config.now.memory image.now }
     requires one { config.now.buses ≡ 1 }
@@ -100,21 +119,19 @@ fn check_bus<R: Abort + AllocGlobal>(
     let mut bus = Channel::bus(rt.alloc(), 0, config, image)?;
     let mut posts = PostList::new(rt.alloc());
     let mut clashes = ClashList::new(rt.alloc());
-    for ask in drifted.drift.served.as_slice() {
+    for ask in drift.served.as_slice() {
         serve_one(rt, config, &mut bus, ask, &mut posts, &mut clashes)?;
     }
     bus.close();
-    assert!(rt; clashes == drifted.drift.clashes);
+    assert!(rt; clashes == drift.clashes);
     for number in 0..2 {
-        let taken = drifted
-            .drift
+        let taken = drift
             .sent
             .get(number as usize)
             .expect(rt, "a list for each core");
         let sent = posts.as_slice().iter().filter(|post| post.to == number);
         assert!(rt; sent.eq(taken.as_slice().iter().map(|entry| &entry.post)));
     }
-    let end = drifted.end.chans.get(0).expect(rt, "a bus");
     assert!(rt; are_same_channels(&bus, end));
     Ok(())
 }
@@ -166,9 +183,14 @@ fn drifts_of_random_steps(rt: HostRuntime) -> Result<(), Fail> {
             CYCLES,
             &list,
         )?;
-        check_core(&rt, &config, &target.code, 0, &drifted)?;
-        check_core(&rt, &config, &target.code, 1, &drifted)?;
-        check_bus(&rt, &config, &image, &drifted)?;
+        check(
+            &rt,
+            &config,
+            &image,
+            &target.code,
+            &drifted.drift,
+            &drifted.end,
+        )?;
         let drift = &drifted.drift;
         assert_eq!(rt; drift.clashes.len(), drift.served.len());
         assert!(rt; scan(alloc, &target, drift)? == drifted.seen);

@@ -9,9 +9,10 @@ use slack_base::OutOfMemory;
 use std::thread::{Threads, join_mut};
 use target_law::Target;
 
-/// The length of a piece, in cycles, from which its cores tick in threads of their own. To start a thread and to wait for
-/// it takes about as long as some hundred ticks, so a shorter piece is done sooner on the calling thread.
-pub const PARALLEL_FROM: u64 = 4096;
+/// The length of a piece, in cycles, from which its cores tick in threads of their own. To start threads and to wait for
+/// them takes as long as thousands of ticks, on a busy machine far longer, so a shorter piece is done sooner on the calling
+/// thread (`bench/README.md` has the measurement).
+pub const PARALLEL_FROM: u64 = 65_536;
 
 /// Every core ticks through so many cycles from a clock.
 pub fn tick_all<R: Threads + Sync, C: Send + Drop, T: Target<Core = C> + Sync>(

@@ -326,12 +326,12 @@ fn long_pieces(rt: HostRuntime) -> Result<(), Fail> {
     )
 }
 
-/// One piece of 5000 cycles, whose cores tick in threads. No post is taken before its end: so nothing is counted of the
-/// asks, 2500 of core 0, 1667 of core 1 and 1250 of core 2.
+/// One piece of 72,000 cycles, whose cores tick in threads. No post is taken before its end: so nothing is counted of the
+/// asks, 36,000 of core 0, 24,000 of core 1 and 18,000 of core 2.
 #[test]
 fn a_piece_in_threads(rt: HostRuntime) -> Result<(), Fail> {
-    let run = ran(&rt, rt.alloc(), 5000, 5000, 5000)?;
-    assert_eq!(rt; run.end.clock, 5000);
-    assert_eq!(rt; counts(&run), ([0, 0, 0], 5417));
+    let run = ran(&rt, rt.alloc(), 72_000, 72_000, 72_000)?;
+    assert_eq!(rt; run.end.clock, 72_000);
+    assert_eq!(rt; counts(&run), ([0, 0, 0], 78_000));
     Ok(())
 }
