@@ -8,3 +8,5 @@ mod machines;
 mod quiet;
 #[cfg(test)]
 mod replays;
+#[cfg(test)]
+mod threads;
