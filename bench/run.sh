@@ -1,7 +1,7 @@
 #!/usr/bin/env bash
 # Times the built program on loops that never end, up to a limit of 10,000,000 cycles: in registers, with
 # multiplications and divisions, on lines of each core's own, and on lines that cores share. It prints simulated
-# core-cycles a second and the peak memory; then the same in pieces of some cycles. Then it times posts through a ring,
+# core-cycles a second and the peak memory; then the same in pieces of some cycles, and by threads. Then it times posts through a ring,
 # in one thread and across two, and cores that advance through a clock table, in one thread and in threads of their own.
 # It is a measurement and no test. First it sees that each image is what its text assembles to.
 set -eu
@@ -38,6 +38,24 @@ for loop in loop private shared; do
         done | sort -n | head -n 1)"
         awk -v l="$loop" -v q="$quantum" -v s="$seconds" -v m="$memory" \
             'BEGIN { n = 4000000; if (s == 0) s = 0.01; printf "%-10s %8d %12d %8.2f %15.0f %8d\n", l, q, n, s, n / s, m }'
+    done
+done
+
+# Drifts by threads, of 20 intervals, beside the same cycle by cycle, and how many intervals were quiet.
+printf '%-10s %6s %9s %9s %12s %8s\n' loop cores interval slack ms/interval quiet
+for loop in private shared; do
+    for cores in 2 4; do
+        for interval in 1000 10000 100000; do
+            for slack in none 8 64 1000; do
+                mode=(--mode bounded --slack "$slack")
+                [ "$slack" != none ] || mode=(--mode lockstep)
+                text=$({ /usr/bin/time -f '%e' "$top/slacksim" run --cores "$cores" --interval "$interval" --limit $((20 * interval)) \
+                    "${mode[@]}" --notes on <"$top/bench/$loop.slk1"; } 2>&1 || true)
+                quiet=$(grep -c 'bus 0 map 0 line 0 reply 0$' <<<"$text" || true)
+                awk -v l="$loop" -v c="$cores" -v i="$interval" -v k="$slack" -v s="$(tail -n 1 <<<"$text")" -v q="$quiet" \
+                    'BEGIN { printf "%-10s %6d %9d %9s %12.2f %8d\n", l, c, i, k, 50 * s, q }'
+            done
+        done
     done
 done
 
