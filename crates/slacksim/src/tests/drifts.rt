@@ -9,7 +9,7 @@ const ALL_ZERO: Answer = Answer::Done { all_zero: true };
 /// A core loads a word, and exits with 0.
 const LOADS: &[u8] = b"lui x8, 1\nlw x5, 0(x8)\naddi x17, x0, 93\naddi x10, x0, 0\necall";
 
-const DRIFTS: [Case; 5] = [
+const DRIFTS: [Case; 6] = [
     // Core 1 runs ahead, and its ask is served before core 0's of the same cycle: the two change places.
     Case {
         words: &[
@@ -72,9 +72,16 @@ const DRIFTS: [Case; 5] = [
         },
         text: b"cores 1\ncycles 11\ncore 0 running at 11 retired 1 accesses 0 misses 1 retries 0 waits 9 snoops 0 writebacks 0\nbus 0 asks 1 retries 0 free 3\nconsole 0\n\ninterval 0 bounded 11 bus 0 map 0 line 0 reply 0\nticks drift 11 replay 0\n",
     },
-    // Two cycles are the least time from an ask to its post: it is as if cycle by cycle.
+    // Two cycles are the least time from an ask to its post: with two or one it is as if cycle by cycle.
     Case {
         words: &["run", "--cores", "2", "--mode", "quantum", "--quantum", "2"],
+        input: STORES,
+        status: 0,
+        answer: ALL_ZERO,
+        text: b"cores 2\ncycles 22\ncore 0 exit 0 at 14 retired 5 accesses 1 misses 1 retries 0 waits 9 snoops 1 writebacks 0\ncore 1 exit 0 at 21 retired 5 accesses 1 misses 6 retries 5 waits 11 snoops 0 writebacks 0\nbus 0 asks 8 retries 5 free 17\nconsole 0\n\n",
+    },
+    Case {
+        words: &["run", "--cores", "2", "--mode", "quantum", "--quantum", "1"],
         input: STORES,
         status: 0,
         answer: ALL_ZERO,

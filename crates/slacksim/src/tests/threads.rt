@@ -1,6 +1,7 @@
 //! Runs of drifts by threads, under gates that hold cores or let them meet.
 ghost use Rattle.std.specs.Prelude.{false};
 
+use super::calls::EXIT;
 use super::programs::STORES;
 use super::{WHOLE, call, call_under};
 use crossbeam_utils::CachePadded;
@@ -20,9 +21,9 @@ const CORE_1_FIRST: &[u8] =
 const IN_ORDER: &[u8] =
     b"cores 2\ncycles 22\ncore 0 exit 0 at 14 retired 5 accesses 1 misses 1 retries 0 waits 9 snoops 1 writebacks 0\ncore 1 exit 0 at 21 retired 5 accesses 1 misses 6 retries 5 waits 11 snoops 0 writebacks 0\nbus 0 asks 8 retries 5 free 17\nconsole 0\n\ninterval 0 bounded 1000 bus 0 map 0 line 0 reply 0\nticks drift 2000 replay 0\n";
 
-/// One core has no one to be out of order with.
+/// One core that exits at once.
 const ALONE: &[u8] =
-    b"cores 1\ncycles 15\ncore 0 exit 0 at 14 retired 5 accesses 1 misses 1 retries 0 waits 9 snoops 0 writebacks 0\nbus 0 asks 1 retries 0 free 3\nconsole 0\n\ninterval 0 bounded 1000 bus 0 map 0 line 0 reply 0\nticks drift 1000 replay 0\n";
+    b"cores 1\ncycles 3\ncore 0 exit 0 at 2 retired 3 accesses 0 misses 0 retries 0 waits 0 snoops 0 writebacks 0\nbus 0 asks 0 retries 0 free 0\nconsole 0\n\ninterval 0 bounded 1000 bus 0 map 0 line 0 reply 0\nticks drift 1000 replay 0\n";
 
 /// A gate that holds so many cores at their first clocks.
 fn stop_first(alloc: Global, cores: u32) -> Result<StopGate, Fail> {
@@ -46,9 +47,8 @@ fn cores_that_are_held(rt: HostRuntime) -> Result<(), Fail> {
 
 #[test]
 fn one_core_by_threads(rt: HostRuntime) -> Result<(), Fail> {
-    let image = call(&rt, &["asm"], STORES)?;
     let words = ["run", "--mode", "bounded", "--notes", "on"];
-    let outcome = call(&rt, words.as_slice(), image.text.as_slice())?;
+    let outcome = call(&rt, words.as_slice(), EXIT)?;
     assert_eq!(rt; outcome.text.as_slice(), ALONE);
     Ok(())
 }
