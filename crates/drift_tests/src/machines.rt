@@ -1,10 +1,11 @@
 //! Machines that run a small program, and whether two of them are the same.
-ghost use Rattle.std.specs.Prelude.{◌≡◌};
+ghost use Rattle.std.specs.Prelude.{◌≡◌, ◌<◌, ◌^◌, length};
 ghost use Rattle.slack_base.specs.Images.{Fits};
 
 use bus_model::Channel;
-use image_load::read_image;
+use image_load::{flat_bytes, read_image};
 use lockstep_model::Machine;
+use rv_asm::assemble;
 use slack_base::{Config, Image, RawConfig};
 use std::process::Abort;
 use timed_core::TimedCore;
@@ -17,7 +18,7 @@ pub const STORES: &[u8] =
 pub const LOADS: &[u8] =
     b"SLK1\0\0\0\0\0\0\0\0\x14\0\0\0\x37\x14\0\0\x83\x22\x04\0\x93\x08\xd0\x05\x13\x05\0\0\x73\0\0\0";
 
-/// The line that the programs store to and load from.
+/// The first of the lines that the programs store to and load from.
 pub const LINE: u32 = 256;
 
 /// The default configuration with so many cores.
@@ -36,6 +37,16 @@ pub fn image_of<R: Abort + AllocGlobal>(rt: &R, config: &Config, file: &[u8]) ->
     ensures { Fits config.now.base config.now.memory result }
 {
     read_image(rt.alloc(), file, config).expect(rt, "an image")
+}
+
+/// The image of an assembler text.
+pub fn image_of_text<R: Abort + AllocGlobal>(rt: &R, config: &Config, text: &[u8]) -> Image
+    requires { length text.now < 2 ^ 32 }
+    ensures { Fits config.now.base config.now.memory result }
+{
+    let assembled = assemble(rt.alloc(), text, 0).expect(rt, "a text without a fault");
+    let file = flat_bytes(rt.alloc(), &assembled).expect(rt, "memory for a file");
+    image_of(rt, config, file.as_slice())
 }
 
 /// Whether two machines are the same: their clocks, cores and channels.
@@ -62,7 +73,7 @@ pub fn are_same_cores(a: &TimedCore, b: &TimedCore) -> bool {
         && a.reservation() == b.reservation()
         && a.end() == b.end()
         && a.counts() == b.counts()
-        && a.held(LINE) == b.held(LINE)
+        && (LINE..LINE + 3).all(|line| a.held(line) == b.held(line))
         && (0..32).all(|n| a.reg(n) == b.reg(n))
 }
 
@@ -71,6 +82,6 @@ pub fn are_same_channels(a: &Channel, b: &Channel) -> bool {
     a.free() == b.free()
         && a.asks() == b.asks()
         && a.retries() == b.retries()
-        && a.find_entry(LINE) == b.find_entry(LINE)
+        && (LINE..LINE + 3).all(|line| a.find_entry(line) == b.find_entry(line))
         && a.console_bytes() == b.console_bytes()
 }

@@ -1,5 +1,5 @@
-//! Drifts of given interleavings of two cores that store to one line, gone through once more by plain code: what each core
-//! does alone with the posts that it took, and what the bus does with the asks in the order in which they were served.
+//! Drifts, gone through once more by plain code: what each core does alone with the posts that it took, and what the bus does
+//! with the asks in the order in which they were served.
 ghost use Rattle.std.specs.Prelude.{◌≡◌, ◌<◌, Some, IsTrue, OnOk};
 ghost use Rattle.slack_base.specs.Images.{Fits};
 ghost use Rattle.slack_base.specs.Numbers.{numbers_of};
@@ -69,7 +69,7 @@ fn check_core<R: Abort + AllocGlobal>(
     Ok(())
 }
 
-/// A drift of two cores, gone through once more.
+/// A drift of a machine with one bus, in which no byte is put on the console, gone through once more.
 pub fn check<R: Abort + AllocGlobal>(
     rt: &R,
     config: &Config,
@@ -78,11 +78,10 @@ pub fn check<R: Abort + AllocGlobal>(
     drift: &Drift,
     end: &Machine,
 ) -> Result<(), Fail>
-    requires cores { config.now.cores ≡ 2 }
     requires image { Fits config.now.base config.now.memory image.now }
     requires one { config.now.buses ≡ 1 }
 {
-    for number in 0..2 {
+    for number in 0..config.cores {
         let core = end
             .cores
             .get(number as usize)
@@ -124,7 +123,7 @@ fn check_bus<R: Abort + AllocGlobal>(
     }
     bus.close();
     assert!(rt; clashes == drift.clashes);
-    for number in 0..2 {
+    for number in 0..config.cores {
         let taken = drift
             .sent
             .get(number as usize)
