@@ -6,6 +6,7 @@ pub mod Images
 pub mod Inboxes
 pub mod Lending
 pub mod LittleEndian
+pub mod Marks
 pub mod Messages
 pub mod Numbers
 pub mod Operations
