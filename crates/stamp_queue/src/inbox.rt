@@ -1,5 +1,5 @@
 //! The inbox of a core: the posts that wait for it, in the order in which it applies them.
-ghost use Rattle.std.specs.Prelude.{◌≡◌, ◌+◌, ◌<◌, ◌≤◌, ◌↔◌, [], ◌∷◌, ◌++◌, length, take, drop, false, IsTrue, IsNone, IfNone, IfSome, OnOk, OnErr};
+ghost use Rattle.std.specs.Prelude.{◌≡◌, ◌+◌, ◌<◌, ◌≤◌, ◌↔◌, [], ◌∷◌, ◌++◌, length, take, drop, false, IsTrue, IsNone, IfNone, IfOk, IfSome, OnOk, OnErr};
 ghost use Rattle.std.specs.List.{AllByRecursion};
 ghost use Rattle.slack_base.specs.Inboxes.{is_later, with_post};
 ghost use Rattle.stamp_queue.specs.Inbox.{IsInOrder, IsPutBetween};
@@ -35,6 +35,15 @@ impl Inbox {
         Inbox {
             posts: Vec::new(alloc),
         }
+    }
+
+    /// An inbox with the same posts.
+    pub fn copy(&self) -> Result<Inbox, OutOfMemory>
+        ensures { IfOk result (λ copy. copy ≡ self.now) }
+    {
+        let mut posts = Vec::with_capacity(*self.posts.allocator(), self.posts.len())?;
+        posts.extend_from_slice(&self.posts)?;
+        Ok(Inbox { posts })
     }
 
     /// How many posts wait.

@@ -9,6 +9,7 @@ use Rattle.slack_base.specs.declared.stamps.Id.{Id}
 use Rattle.slack_base.specs.Inboxes.{CoreValue}
 use Rattle.slack_base.specs.Growing.{raised}
 use Rattle.slack_base.specs.HighestIds.{later_of, clash_with}
+use Rattle.slack_base.specs.Marks.{Marked}
 use Rattle.slack_base.specs.Messages.{id_of}
 use Rattle.target_law.specs.Cycles.{StateValue}
 use Rattle.target_law.specs.Rules.{Rules, Owns}
@@ -83,9 +84,14 @@ trio_rules = record {
 abbrev pub trio_owns : Owns TrioInner TrioChannel
 trio_owns = record { core = λ core. core.number < 3; chan = λ chan. chan.number < 1 }
 
--- cores and channels are seen as their values
-abbrev pub trio_values : Values (CoreValue TrioInner) TrioChannel TrioInner TrioChannel
-trio_values = record { core = λ core. core; chan = λ chan. chan }
+-- cores and channels are seen as their present values and those at their marks
+abbrev pub trio_values : Values (Marked (CoreValue TrioInner)) (Marked TrioChannel) TrioInner TrioChannel
+trio_values = record {
+  core = λ core. core.value;
+  chan = λ chan. chan.value;
+  saved_core = λ core. core.saved;
+  saved_chan = λ chan. chan.saved;
+}
 
 -- a core, and the channel, before the first cycle: nothing was counted, and no post waits
 abbrev pub first_core : ℕ → CoreValue TrioInner

@@ -1,5 +1,5 @@
 //! What a machine of cores and channels brings along.
-ghost use Rattle.std.specs.Prelude.{◌≡◌, ◌==◌, ◌&&◌, ◌≤◌, ◌++◌, OnOk};
+ghost use Rattle.std.specs.Prelude.{◌≡◌, ◌==◌, ◌&&◌, ◌≤◌, ◌++◌, None, Some, OnOk, IsSome};
 ghost use Rattle.slack_base.specs.declared.bounds.TheConstants.{TOP};
 ghost use Rattle.slack_base.specs.Inboxes.{with_put};
 ghost use Rattle.target_law.specs.Cycles.{tick_of};
@@ -65,21 +65,24 @@ pub trait Target {
     /// Puts a post into the core's inbox.
     fn put(&self, core: &mut Self::Core, post: Post) -> Result<(), OutOfMemory>
         requires { IsPostTo (rules self.now) ((rules self.now).core_number (values.core core.old).inner) post }
-        ensures { OnOk result (values.core core.new ≡ with_put post (values.core core.old)) };
+        ensures core { OnOk result (values.core core.new ≡ with_put post (values.core core.old)) }
+        ensures saved { OnOk result (values.saved_core core.new ≡ values.saved_core core.old) };
 
     /// One tick of a core. The asks that it sends are appended.
     fn tick(&self, core: &mut Self::Core, cycle: u64, out: &mut AskList) -> Result<(), OutOfMemory>
         requires clock { cycle ≤ TOP }
         requires core { IsCore (rules self.now) (owns self.now) (values.core core.old) }
         ensures core { OnOk result (values.core core.new ≡ (tick_of (rules self.now) cycle (values.core core.old)).0) }
-        ensures asks { OnOk result (out.new ≡ out.old ++ (tick_of (rules self.now) cycle (values.core core.old)).1) };
+        ensures asks { OnOk result (out.new ≡ out.old ++ (tick_of (rules self.now) cycle (values.core core.old)).1) }
+        ensures saved { OnOk result (values.saved_core core.new ≡ values.saved_core core.old) };
 
     /// Serves an ask of this channel. The posts that it causes are appended.
     fn serve(&self, chan: &mut Self::Chan, ask: &Ask, out: &mut PostList) -> Result<(), OutOfMemory>
         requires ask { IsProperAsk (rules self.now) ask.now }
         requires chan { IsChanOf (rules self.now) (owns self.now) ((rules self.now).channel_of ask.now) (values.chan chan.old) }
         ensures chan { OnOk result (values.chan chan.new ≡ ((rules self.now).serve (values.chan chan.old) ask.now).0) }
-        ensures posts { OnOk result (out.new ≡ out.old ++ ((rules self.now).serve (values.chan chan.old) ask.now).1) };
+        ensures posts { OnOk result (out.new ≡ out.old ++ ((rules self.now).serve (values.chan chan.old) ask.now).1) }
+        ensures saved { OnOk result (values.saved_chan chan.new ≡ values.saved_chan chan.old) };
 
     /// The id that an ask of this channel would be out of order with if it were served now, if there is one. It takes no
     /// memory.
@@ -91,12 +94,49 @@ pub trait Target {
     /// Closes the channel: what it noted to tell clashes is forgotten. It takes no memory.
     fn close(&self, chan: &mut Self::Chan)
         requires { IsChan (rules self.now) (owns self.now) (values.chan chan.old) }
-        ensures { values.chan chan.new ≡ (rules self.now).close (values.chan chan.old) };
+        ensures chan { values.chan chan.new ≡ (rules self.now).close (values.chan chan.old) }
+        ensures saved { values.saved_chan chan.new ≡ values.saved_chan chan.old };
 
     /// A cycle from which on the core touched nothing of what a post to it is about. It takes no memory.
     fn touched(&self, core: &Self::Core, post: &Post) -> u64
         requires { IsPostTo (rules self.now) ((rules self.now).core_number (values.core core.now).inner) post.now }
         ensures { result ≡ (rules self.now).touched (values.core core.now).inner post.now };
+
+    /// Marks the core: its present value is saved, in place of one that was saved before.
+    fn mark_core(&self, core: &mut Self::Core) -> Result<(), OutOfMemory>
+        requires { IsCore (rules self.now) (owns self.now) (values.core core.old) }
+        ensures core { OnOk result (values.core core.new ≡ values.core core.old) }
+        ensures saved { OnOk result (values.saved_core core.new ≡ Some (values.core core.old)) };
+
+    /// Takes the core back to its mark, and ends the mark. It takes no memory.
+    fn undo_core(&self, core: &mut Self::Core)
+        requires { IsSome (values.saved_core core.old) }
+        ensures core { values.saved_core core.old ≡ Some (values.core core.new) }
+        ensures saved { values.saved_core core.new ≡ None };
+
+    /// Ends the core's mark. It takes no memory.
+    fn keep_core(&self, core: &mut Self::Core)
+        requires { IsSome (values.saved_core core.old) }
+        ensures core { values.core core.new ≡ values.core core.old }
+        ensures saved { values.saved_core core.new ≡ None };
+
+    /// Marks the channel: its present value is saved, in place of one that was saved before.
+    fn mark_chan(&self, chan: &mut Self::Chan) -> Result<(), OutOfMemory>
+        requires { IsChan (rules self.now) (owns self.now) (values.chan chan.old) }
+        ensures chan { OnOk result (values.chan chan.new ≡ values.chan chan.old) }
+        ensures saved { OnOk result (values.saved_chan chan.new ≡ Some (values.chan chan.old)) };
+
+    /// Takes the channel back to its mark, and ends the mark. It takes no memory.
+    fn undo_chan(&self, chan: &mut Self::Chan)
+        requires { IsSome (values.saved_chan chan.old) }
+        ensures chan { values.saved_chan chan.old ≡ Some (values.chan chan.new) }
+        ensures saved { values.saved_chan chan.new ≡ None };
+
+    /// Ends the channel's mark. It takes no memory.
+    fn keep_chan(&self, chan: &mut Self::Chan)
+        requires { IsSome (values.saved_chan chan.old) }
+        ensures chan { values.chan chan.new ≡ values.chan chan.old }
+        ensures saved { values.saved_chan chan.new ≡ None };
 
     // what every target keeps to
     ghost laws: { (target : Self) → Laws (rules target) (owns target) };

@@ -2,6 +2,8 @@
 ghost use Rattle.std.specs.Prelude.{◌≡◌, nat_le, nat_lt, filter};
 ghost use Rattle.target_law.specs.Trio.{raised_for};
 
+mod marks;
+
 use crate::states::State;
 use crate::targets::Target;
 use slack_base::{
@@ -58,15 +60,15 @@ impl Trio {
     }
 }
 
-/// A core: its number, what it counted, and the posts that wait for it.
+/// What a core counted, and the posts that wait for it.
 #[derive(Drop)]
-pub struct TrioCore {
+struct CoreTally {
     number: u32,
     count: u64,
     inbox: Inbox,
 }
 
-impl Model for TrioCore {
+impl Model for CoreTally {
     ghost use Rattle.slack_base.specs.Inboxes.{CoreValue};
     ghost use Rattle.target_law.specs.Trio.{TrioInner};
 
@@ -75,15 +77,15 @@ impl Model for TrioCore {
     ghost view = { λ c. record { inner = record { number = c.number; count = c.count }; inbox = c.inbox } };
 }
 
-/// A channel: its number, what it counted, and the greatest id that it served since it was closed.
+/// What a channel counted, and the greatest id that it served since it was closed.
 #[derive(Drop)]
-pub struct TrioChan {
+struct ChanTally {
     number: u32,
     total: u64,
     highest: HighestId,
 }
 
-impl Model for TrioChan {
+impl Model for ChanTally {
     ghost use Rattle.target_law.specs.Trio.{TrioChannel};
 
     ghost Value = { TrioChannel };
@@ -91,49 +93,88 @@ impl Model for TrioChan {
     ghost view = { λ c. record { number = c.number; total = c.total; highest = c.highest } };
 }
 
+/// A core: its number, what it counted, and the posts that wait for it.
+#[derive(Drop)]
+pub struct TrioCore {
+    tally: CoreTally,
+    saved: Option<CoreTally>,
+}
+
+impl Model for TrioCore {
+    ghost use Rattle.slack_base.specs.Inboxes.{CoreValue};
+    ghost use Rattle.slack_base.specs.Marks.{Marked};
+    ghost use Rattle.target_law.specs.Trio.{TrioInner};
+
+    ghost Value = { Marked (CoreValue TrioInner) };
+
+    ghost view = { λ c. record { value = c.tally; saved = c.saved } };
+}
+
+/// A channel: its number, what it counted, and the greatest id that it served since it was closed.
+#[derive(Drop)]
+pub struct TrioChan {
+    tally: ChanTally,
+    saved: Option<ChanTally>,
+}
+
+impl Model for TrioChan {
+    ghost use Rattle.slack_base.specs.Marks.{Marked};
+    ghost use Rattle.target_law.specs.Trio.{TrioChannel};
+
+    ghost Value = { Marked TrioChannel };
+
+    ghost view = { λ c. record { value = c.tally; saved = c.saved } };
+}
+
 impl TrioCore {
-    ghost use Rattle.std.specs.Prelude.{◌≡◌};
+    ghost use Rattle.std.specs.Prelude.{◌≡◌, None};
     ghost use Rattle.target_law.specs.Trio.{first_core};
 
     /// A core that has counted nothing.
     pub fn new(alloc: Global, number: u32) -> TrioCore
-        ensures { result ≡ first_core number }
+        ensures { result ≡ record { value = first_core number; saved = None } }
     {
         TrioCore {
-            number,
-            count: 0,
-            inbox: Inbox::new(alloc),
+            tally: CoreTally {
+                number,
+                count: 0,
+                inbox: Inbox::new(alloc),
+            },
+            saved: None,
         }
     }
 
     /// How many posts it counted.
     pub fn count(&self) -> u64
-        ensures { result ≡ self.now.inner.count }
+        ensures { result ≡ self.now.value.inner.count }
     {
-        self.count
+        self.tally.count
     }
 }
 
 impl TrioChan {
-    ghost use Rattle.std.specs.Prelude.{◌≡◌};
+    ghost use Rattle.std.specs.Prelude.{◌≡◌, None};
     ghost use Rattle.target_law.specs.Trio.{first_chan};
 
     /// A channel that has counted nothing.
     pub fn new(number: u32) -> TrioChan
-        ensures { result ≡ first_chan number }
+        ensures { result ≡ record { value = first_chan number; saved = None } }
     {
         TrioChan {
-            number,
-            total: 0,
-            highest: HighestId::none(),
+            tally: ChanTally {
+                number,
+                total: 0,
+                highest: HighestId::none(),
+            },
+            saved: None,
         }
     }
 
     /// How many asks it counted.
     pub fn total(&self) -> u64
-        ensures { result ≡ self.now.total }
+        ensures { result ≡ self.now.value.total }
     {
-        self.total
+        self.tally.total
     }
 }
 
@@ -184,7 +225,7 @@ impl Target for Trio {
     }
 
     fn number_of(&self, core: &TrioCore) -> u32 {
-        core.number
+        core.tally.number
     }
 
     fn ask_is_proper(&self, ask: &Ask) -> bool {
@@ -197,21 +238,22 @@ impl Target for Trio {
     }
 
     fn ended(&self, core: &TrioCore) -> bool {
-        core.count >= 5
+        core.tally.count >= 5
     }
 
     fn put(&self, core: &mut TrioCore, post: Post) -> Result<(), OutOfMemory> {
         self.taken.fetch_add(1, Ordering::SeqCst);
-        core.inbox.put(post)
+        core.tally.inbox.put(post)
     }
 
     fn tick(&self, core: &mut TrioCore, cycle: u64, out: &mut AskList) -> Result<(), OutOfMemory> {
         self.ticked.fetch_add(1, Ordering::SeqCst);
-        core.count = count_due(&mut core.inbox, cycle, core.count);
-        if cycle % (core.number as u64 + 2) == 0 {
+        let tally = &mut core.tally;
+        tally.count = count_due(&mut tally.inbox, cycle, tally.count);
+        if cycle % (tally.number as u64 + 2) == 0 {
             let id = Id {
                 cycle,
-                core: core.number,
+                core: tally.number,
                 number: 0,
             };
             out.push(Ask::Read { id, line: 0 })?;
@@ -222,8 +264,8 @@ impl Target for Trio {
     fn serve(&self, chan: &mut TrioChan, ask: &Ask, out: &mut PostList) -> Result<(), OutOfMemory> {
         self.served.fetch_add(1, Ordering::SeqCst);
         let id = ask.id();
-        chan.total = raised(chan.total);
-        chan.highest.note(id);
+        chan.tally.total = raised(chan.tally.total);
+        chan.tally.highest.note(id);
         out.push(Post {
             to: (id.core + 1) % 3,
             due: id.cycle + 2,
@@ -234,15 +276,40 @@ impl Target for Trio {
     }
 
     fn clash(&self, chan: &TrioChan, ask: &Ask) -> Option<Id> {
-        chan.highest.above(ask.id())
+        chan.tally.highest.above(ask.id())
     }
 
     fn close(&self, chan: &mut TrioChan) {
-        chan.highest.reset();
+        chan.tally.highest.reset();
     }
 
     fn touched(&self, _core: &TrioCore, _post: &Post) -> u64 {
         TOP
+    }
+
+    fn mark_core(&self, core: &mut TrioCore) -> Result<(), OutOfMemory> {
+        core.mark()
+    }
+
+    fn undo_core(&self, core: &mut TrioCore) {
+        core.undo();
+    }
+
+    fn keep_core(&self, core: &mut TrioCore) {
+        core.keep();
+    }
+
+    fn mark_chan(&self, chan: &mut TrioChan) -> Result<(), OutOfMemory> {
+        chan.mark();
+        Ok(())
+    }
+
+    fn undo_chan(&self, chan: &mut TrioChan) {
+        chan.undo();
+    }
+
+    fn keep_chan(&self, chan: &mut TrioChan) {
+        chan.keep();
     }
 
     ghost laws = { λ _. trio_laws };

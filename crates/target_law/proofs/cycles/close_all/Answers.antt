@@ -16,4 +16,4 @@ pub loop-chan-preserved : goal.loop-chan-preserved
 loop-chan-preserved g c =
     let within : c.loop-chan.chan-index < length c.args.chans.now = search rules in
     viewed_more g.T.Target.values.chan (g.T.Target.rules c.args.target.now).close c.args.chans.now c.loop-chan.chans c.loop-chan.chan-index c.chan-item.result within c.chan-item.is
-    c.loop-chan.invariant c.close.new.chan c.close.ensures
+    c.loop-chan.invariant c.close.new.chan c.close.ensures.chan

@@ -35,6 +35,6 @@ loop-post-preserved g c =
     let within : (get_or posts i blank).to < length cores = post_within rules (g.T.Target.owns t) (g.met.T.Target.laws t) (get_or posts i blank) (length cores) c.loop-post.invariant.count proper in
     record {
       count = length-set cores _ c.put.new.core ∙ c.loop-post.invariant.count;
-      numbers = numbers_more rules view cores posts i blank item c.loop-post-test.true within c.put.new.core c.in_ok-put.ensures c.loop-post.invariant.numbers;
-      cores = delivered_more rules view cores posts i blank item c.loop-post-test.true within c.put.new.core c.in_ok-put.ensures ∙ c.loop-post.invariant.cores;
+      numbers = numbers_more rules view cores posts i blank item c.loop-post-test.true within c.put.new.core c.in_ok-put.ensures.core c.loop-post.invariant.numbers;
+      cores = delivered_more rules view cores posts i blank item c.loop-post-test.true within c.put.new.core c.in_ok-put.ensures.core ∙ c.loop-post.invariant.cores;
     }
