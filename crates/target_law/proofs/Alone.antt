@@ -1,5 +1,5 @@
 -- A core alone does what the literal reading says, clock by clock, and so has one outcome; and a drift has one end.
-use Rattle.std.proofs.Common.{◌≡◌, ◌≢◌, ◌∙◌, ℕ, ◌+◌, ◌<◌, ◌≤◌, ◌==◌, zero, suc, List, [], ◌∷◌, ◌++◌, map, refl, sym, ap, subst, arith, append_assoc, ⊎_elim}
+use Rattle.std.proofs.Common.{◌≡◌, ◌∙◌, ℕ, ◌+◌, ◌<◌, ◌≤◌, zero, suc, List, [], ◌∷◌, ◌++◌, refl, sym, ap, arith, append_assoc, ⊎_elim}
 use Rattle.std.specs.List.{AllByRecursion as Each}
 use Rattle.std.proofs.lemmas.Bool.{cases_lt}
 use Rattle.std.proofs.lemmas.List.{append-nil}
@@ -9,9 +9,9 @@ use Rattle.slack_base.specs.declared.messages.Ask.{Ask}
 use Rattle.slack_base.specs.declared.messages.Post.{Post}
 use Rattle.slack_base.specs.Inboxes.{CoreValue, with_post, with_put}
 use Rattle.target_law.specs.Alone.{Alone, begins, takes, ticks, touch_of, taking}
-use Rattle.target_law.specs.AloneLaw.{taken_at, AreClocks, alone, IsLiteral, AllLiteral, AllOneOutcome, AllOneEnd}
-use Rattle.target_law.specs.Cycles.{StateValue, tick_of, through}
-use Rattle.target_law.specs.Drifts.{IsPartOf, IsDrift}
+use Rattle.target_law.specs.AloneLaw.{taken_at, alone, IsLiteral, AllLiteral, AllOneOutcome, AllOneEnd}
+use Rattle.target_law.specs.Cycles.{StateValue, tick_of}
+use Rattle.target_law.specs.Drifts.{IsPartOf}
 use Rattle.target_law.specs.Numbered.{AllNumberedTriples}
 use Rattle.target_law.specs.Rules.{Rules}
 use Rattle.target_law.specs.Schedules.{with_posts, with_puts, alone_by}

@@ -16,3 +16,4 @@ pub mod Places
 pub mod Running
 pub mod Serving
 pub mod Stored
+pub mod Ways

@@ -2,8 +2,11 @@ pub mod Alone
 pub mod AloneLaw
 pub mod Cycles
 pub mod Drifts
+pub mod InSight
+pub mod InSightLaws
 pub mod Laws
 pub mod Lockstep
+pub mod Marks
 pub mod Numbered
 pub mod Proper
 pub mod Rules

@@ -2,6 +2,7 @@
 #![tactic(auto)]
 
 pub mod cycles;
+pub mod in_sight;
 pub mod laws;
 pub mod runs;
 pub mod states;

@@ -3,7 +3,7 @@ use Rattle.io_edge.specs.Holds.{Holds}
 use Rattle.target_law.specs.Views.{state_of}
 use Rattle.violation_watch.specs.BoundedNotes.{IsBoundedBy}
 use Rattle.drift_run.specs.BoundedRuns.{IsHolding}
-use Rattle.pacing.proofs.Running.{IsOnItsWay, begins, still_on, ends_ended, ends_limit}
+use Rattle.target_law.proofs.Ways.{IsOnItsWay, begins, still_on, ends_ended, ends_limit}
 use Rattle.drift_run.proofs.Running.{drifted, clock_after}
 use Rattle.drift_run.proofs.runs.bounded_run.Goals as goal
 

@@ -4,7 +4,7 @@ use Rattle.io_edge.specs.Holds.{Holds}
 use Rattle.target_law.specs.Views.{state_of}
 use Rattle.violation_watch.specs.BoundedNotes.{IsBoundedBy}
 use Rattle.drift_run.specs.BoundedRuns.{IsHolding}
-use Rattle.pacing.proofs.Running.{IsOnItsWay}
+use Rattle.target_law.proofs.Ways.{IsOnItsWay}
 use Rattle.drift_run.proofs.runs.bounded_run.Given as goal
 
 -- the run is between two intervals

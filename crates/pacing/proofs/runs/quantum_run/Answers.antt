@@ -3,7 +3,8 @@ use Rattle.target_law.specs.Views.{state_of}
 use Rattle.violation_watch.specs.BoundedNotes.{IsBoundedBy}
 use Rattle.pacing.specs.Pieces.{IsPieces}
 use Rattle.pacing.proofs.Exact.{exact_if_short}
-use Rattle.pacing.proofs.Running.{IsOnItsWay, begins, still_on, ends_ended, ends_limit, clock_after, went}
+use Rattle.target_law.proofs.Ways.{IsOnItsWay, begins, still_on, ends_ended, ends_limit}
+use Rattle.pacing.proofs.Running.{clock_after, went}
 use Rattle.pacing.proofs.runs.quantum_run.Goals as goal
 
 pub loop-now-init : goal.loop-now-init

@@ -3,7 +3,7 @@ use Rattle.target_law.specs.Proper.{IsProper}
 use Rattle.target_law.specs.Views.{state_of}
 use Rattle.violation_watch.specs.BoundedNotes.{IsBoundedBy}
 use Rattle.pacing.specs.Pieces.{IsPieces}
-use Rattle.pacing.proofs.Running.{IsOnItsWay}
+use Rattle.target_law.proofs.Ways.{IsOnItsWay}
 use Rattle.pacing.proofs.runs.quantum_run.Given as goal
 
 -- the run is between two intervals
