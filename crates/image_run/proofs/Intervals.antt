@@ -11,7 +11,7 @@ use Rattle.target_law.specs.Runs.{Ends, Goes, first, next, at_once, later, span}
 use Rattle.target_law.proofs.Running.{same_number}
 use Rattle.violation_watch.specs.BoundedNotes.{Kind, IsBoundedBy}
 use Rattle.violation_watch.specs.Scan.{scan_of}
-use Rattle.image_run.specs.Ticks.{cycles_of, replayed_of}
+use Rattle.target_law.specs.Ticks.{cycles_of, replayed_of}
 
 module _ {Inner Chan : Type 0} (rules : Rules Inner Chan) (kind : Kind rules) where
   -- one interval that comes to the limit is a whole run
@@ -62,23 +62,3 @@ module _ {Inner Chan : Type 0} (rules : Rules Inner Chan) (kind : Kind rules) (i
   pub cycles_within : {notes : List Interval} {e : StateValue Inner Chan} → Ends rules interval limit (IsBoundedBy rules kind) s notes e → sum_by cycles_of notes ≤ limit
   cycles_within (at_once same) = omega arith
   cycles_within (later {notes = notes} {e = e} goes over) = let all = counted goes in omega (arith, all.cycles, all.low)
-
--- eight cores at most, and a sum below 2^32
-pub product_within : (cores sum : ℕ) → cores ≤ 8 → sum < 4294967296 → cores * sum < 18446744073709551616
-product_within cores sum few low = let most = mul-le-mul_right sum few in omega (arith, most)
-
--- no more cycles are replayed than there are
-replayed_once : (note : Interval) → replayed_of note ≤ cycles_of note
-unfolding cycles_of replayed_of
-replayed_once (Kept cycles) = omega arith
-replayed_once (Rolled cycles drift seen) = omega arith
-replayed_once (Bounded cycles drift seen) = omega arith
-
-pub replayed_within : (notes : List Interval) → sum_by replayed_of notes ≤ sum_by cycles_of notes
-replayed_within [] = omega arith
-replayed_within (note ∷ notes) =
-    let more = sum_by-cons replayed_of note notes in
-    let all = sum_by-cons cycles_of note notes in
-    let rest = replayed_within notes in
-    let one = replayed_once note in
-    omega (arith, more, all, rest, one)

@@ -3,7 +3,6 @@
 
 pub mod modes;
 pub mod runs;
-pub mod ticks;
 
 pub use modes::is_built;
 pub use runs::{Ran, run_image};

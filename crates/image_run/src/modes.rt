@@ -13,7 +13,7 @@ ghost use Rattle.pacing.specs.QuantumRuns.{IsQuantumRun};
 ghost use Rattle.drift_run.specs.BoundedRuns.{IsBoundedRun};
 ghost use Rattle.image_run.specs.Ends.{IsExactIn, IsQuietIn, IsRunFrom, RunsBy};
 ghost use Rattle.image_run.specs.Modes.{is_built};
-ghost use Rattle.image_run.specs.Ticks.{cycles_of};
+ghost use Rattle.target_law.specs.Ticks.{cycles_of};
 
 use drift_run::{Pace, bounded_run};
 use drive_script::script_run;

@@ -7,17 +7,16 @@ ghost use Rattle.lockstep_model.specs.Rules.{owns_of};
 ghost use Rattle.lockstep_model.specs.Views.{machine_of};
 ghost use Rattle.image_run.specs.Ends.{IsRunEnd, rules_for};
 ghost use Rattle.image_run.specs.Modes.{is_built};
-ghost use Rattle.image_run.specs.Ticks.{drift_ticks_of, replay_ticks_of};
+ghost use Rattle.target_law.specs.Ticks.{drift_ticks_of, replay_ticks_of};
 
 use crate::modes::run_in_mode;
-use crate::ticks::{drift_ticks, replay_ticks};
 use io_edge::Gate;
 use lockstep_model::{Machine, RvTarget, start};
 use sim_words::Mode;
 use slack_base::{Config, Image, NoteList, OutOfMemory, StepList};
 use std::alloc::Global;
 use std::thread::Threads;
-use target_law::Bounded;
+use target_law::{Bounded, drift_ticks, replay_ticks};
 
 /// What a run left: the machine at its end, the notes of its intervals, and the ticks that its cores made in drifts and in
 /// replays.

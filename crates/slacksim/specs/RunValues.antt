@@ -9,7 +9,7 @@ use Rattle.target_law.specs.declared.states.State.{State}
 use Rattle.lockstep_model.specs.Views.{machine_of}
 use Rattle.lockstep_model.specs.declared.rv_targets.RvTarget.{RvTarget}
 use Rattle.image_run.specs.declared.runs.Ran.{Ran}
-use Rattle.image_run.specs.Ticks.{drift_ticks_of, replay_ticks_of}
+use Rattle.target_law.specs.Ticks.{drift_ticks_of, replay_ticks_of}
 use Rattle.slacksim.specs.declared.answers.Finish.{Finish}
 
 -- the machine at the end, if one was run, the notes of its intervals, and the ticks that its cores made in drifts and in

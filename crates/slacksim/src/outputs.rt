@@ -10,7 +10,7 @@ ghost use Rattle.lockstep_model.specs.Views.{machine_of};
 ghost use Rattle.slacksim.specs.Answers.{IsRefusedBy, IsWhole, answer_at, answer_of, all_zero_of, is_zero_exit, running_of};
 ghost use Rattle.slacksim.specs.Inputs.{image_told, image_refusal, text_refusal, refusal_by};
 ghost use Rattle.image_run.specs.Modes.{is_built};
-ghost use Rattle.image_run.specs.Ticks.{drift_ticks_of, replay_ticks_of};
+ghost use Rattle.target_law.specs.Ticks.{drift_ticks_of, replay_ticks_of};
 ghost use Rattle.slacksim.specs.RunValues.{RunValue, no_run, run_value, run_of};
 ghost use Rattle.slacksim.specs.Outputs.{IsOutputBy, IsRunOutput, IsGenOutput, IsAsmOutput, IsListOutput};
 

@@ -5,7 +5,7 @@ ghost use Rattle.slack_base.specs.Images.{Fits};
 ghost use Rattle.lockstep_model.specs.Views.{machine_of};
 ghost use Rattle.stat_report.specs.Dump.{lines_in};
 ghost use Rattle.image_run.specs.Modes.{is_built};
-ghost use Rattle.image_run.specs.Ticks.{drift_ticks_of, replay_ticks_of};
+ghost use Rattle.target_law.specs.Ticks.{drift_ticks_of, replay_ticks_of};
 ghost use Rattle.sim_words.specs.OrderValues.{order_value};
 ghost use Rattle.slacksim.specs.Outputs.{IsRun};
 

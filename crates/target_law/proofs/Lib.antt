@@ -1,6 +1,7 @@
 pub mod Alone
 pub mod Clocks
 pub mod Cores
+pub mod Counting
 pub mod Delivery
 pub mod Due
 pub mod Exact

@@ -14,6 +14,7 @@ pub mod Runs
 pub mod Schedules
 pub mod Served
 pub mod Stops
+pub mod Ticks
 pub mod Trio
 pub mod TrioLaws
 pub mod Values

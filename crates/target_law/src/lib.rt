@@ -7,12 +7,15 @@ pub mod laws;
 pub mod runs;
 pub mod states;
 pub mod targets;
+pub mod ticks;
 pub mod trio;
 
 pub use cycles::{cycle, run_to, stopped};
+pub use in_sight::InSight;
 pub use runs::run;
 pub use states::{Bounded, Drifted, State};
 pub use targets::Target;
+pub use ticks::{drift_ticks, replay_ticks};
 pub use trio::{Trio, TrioChan, TrioCore};
 
 #[cfg(test)]

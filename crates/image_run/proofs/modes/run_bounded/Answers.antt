@@ -3,7 +3,7 @@ use Rattle.std.proofs.lemmas.Result.{IfOk-weaker}
 use Rattle.io_edge.specs.Holds.{Holds}
 use Rattle.target_law.specs.Views.{state_of}
 use Rattle.drift_run.specs.BoundedRuns.{IsHolding, IsBoundedRun}
-use Rattle.image_run.specs.Ticks.{cycles_of}
+use Rattle.target_law.specs.Ticks.{cycles_of}
 use Rattle.image_run.proofs.Intervals.{cycles_within}
 use Rattle.image_run.proofs.modes.run_bounded.Goals as goal
 

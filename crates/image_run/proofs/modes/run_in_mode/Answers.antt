@@ -1,6 +1,6 @@
 use Rattle.std.proofs.Common.{◌≡◌, ◌-◌, ◌≤◌, sum_by, arith}
 use Rattle.std.proofs.lemmas.Result.{IfOk-weaker}
-use Rattle.image_run.specs.Ticks.{cycles_of}
+use Rattle.target_law.specs.Ticks.{cycles_of}
 use Rattle.image_run.proofs.modes.run_in_mode.Goals as goal
 
 pub returns-in-Script-clause-few : goal.returns-in-Script-clause-few

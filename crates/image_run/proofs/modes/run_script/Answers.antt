@@ -4,7 +4,7 @@ use Rattle.target_law.specs.Runs.{Ends}
 use Rattle.target_law.specs.Views.{state_of}
 use Rattle.violation_watch.specs.BoundedNotes.{IsBoundedBy}
 use Rattle.drive_script.specs.Scripts.{IsScriptOf}
-use Rattle.image_run.specs.Ticks.{cycles_of}
+use Rattle.target_law.specs.Ticks.{cycles_of}
 use Rattle.image_run.proofs.Intervals.{one_interval, cycles_of_one}
 use Rattle.image_run.proofs.modes.run_script.Goals as goal
 

@@ -10,8 +10,8 @@ use Rattle.lockstep_model.specs.Views.{machine_of}
 use Rattle.lockstep_model.proofs.Views.{machine_is}
 use Rattle.image_run.specs.Ends.{IsLockstepAt, rules_for}
 use Rattle.image_run.specs.Modes.{limit_in, step_in}
-use Rattle.image_run.specs.Ticks.{cycles_of, replayed_of}
-use Rattle.image_run.proofs.Intervals.{replayed_within, product_within}
+use Rattle.target_law.specs.Ticks.{cycles_of, replayed_of}
+use Rattle.target_law.proofs.Counting.{replayed_within, product_within}
 use Rattle.image_run.proofs.Moved.{moved, lockstep_from_zero}
 use Rattle.image_run.proofs.runs.run_image.Goals as goal
 

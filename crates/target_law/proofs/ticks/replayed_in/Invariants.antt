@@ -1,6 +1,6 @@
 use Rattle.std.proofs.Common.{◌≡◌, ◌+◌, drop, sum_by}
-use Rattle.image_run.specs.Ticks.{replayed_of}
-use Rattle.image_run.proofs.ticks.replayed_in.Given as goal
+use Rattle.target_law.specs.Ticks.{replayed_of}
+use Rattle.target_law.proofs.ticks.replayed_in.Given as goal
 
 -- with what is left the sum comes to that of all
 abbrev pub invariant-loop-note : goal.invariant-loop-note

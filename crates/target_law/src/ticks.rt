@@ -1,6 +1,6 @@
 //! How many ticks the cores of a run made, by its notes.
 ghost use Rattle.std.specs.Prelude.{◌≡◌, ◌*◌, ◌<◌, ◌^◌, sum_by};
-ghost use Rattle.image_run.specs.Ticks.{cycles_of, replayed_of, drift_ticks_of, replay_ticks_of};
+ghost use Rattle.target_law.specs.Ticks.{cycles_of, replayed_of, drift_ticks_of, replay_ticks_of};
 
 use slack_base::{Interval, NoteList};
 
