@@ -16,5 +16,6 @@ pub mod Orders
 pub mod Places
 pub mod Running
 pub mod Serving
+pub mod Sights
 pub mod Stored
 pub mod Ways

@@ -1,9 +1,10 @@
 -- A machine whose marks are part of what contracts see of its cores and channels.
-use Rattle.std.specs.Prelude.{ℕ, List, Option, None}
+use Rattle.std.specs.Prelude.{◌≡◌, ℕ, List, Option, None, map}
 use Rattle.slack_base.specs.declared.messages.Ask.{Ask}
 use Rattle.slack_base.specs.declared.messages.Post.{Post}
 use Rattle.slack_base.specs.Inboxes.{CoreValue}
 use Rattle.slack_base.specs.Marks.{Marked}
+use Rattle.target_law.specs.Cycles.{StateValue}
 use Rattle.target_law.specs.Rules.{Rules, Owns}
 use Rattle.target_law.specs.Values.{Values}
 
@@ -11,6 +12,18 @@ use Rattle.target_law.specs.Values.{Values}
 pub record MarkedInner (Inner : Type 0) : Type 0 where
   pub inner : Inner
   pub saved : Option (CoreValue Inner)
+
+-- the core without its mark, and the state without all marks
+abbrev pub bare : {Inner : Type 0} → CoreValue (MarkedInner Inner) → CoreValue Inner
+bare core = record { inner = core.inner.inner; inbox = core.inbox }
+
+abbrev pub bare_state : {Inner Chan : Type 0} → StateValue (MarkedInner Inner) (Marked Chan) → StateValue Inner Chan
+bare_state s = record { clock = s.clock; cores = map bare s.cores; chans = map (λ chan. chan.value) s.chans }
+
+-- two states of the same marks
+pub record SameMarksInSight {Inner Chan : Type 0} (s e : StateValue (MarkedInner Inner) (Marked Chan)) : Type 0 where
+  pub cores : map (λ core. core.inner.saved) e.cores ≡ map (λ core. core.inner.saved) s.cores
+  pub chans : map (λ chan. chan.saved) e.chans ≡ map (λ chan. chan.saved) s.chans
 
 module _ {Inner Chan : Type 0} (rules : Rules Inner Chan) where
   -- a tick leaves the mark

@@ -7,7 +7,7 @@ use Rattle.slack_base.specs.declared.messages.Post.{Post}
 use Rattle.slack_base.specs.Inboxes.{CoreValue}
 use Rattle.slack_base.specs.Marks.{Marked}
 use Rattle.target_law.specs.Cycles.{tick_of}
-use Rattle.target_law.specs.InSight.{MarkedInner, rules_in_sight, owns_in_sight}
+use Rattle.target_law.specs.InSight.{MarkedInner, bare, rules_in_sight, owns_in_sight}
 use Rattle.target_law.specs.Laws.{Laws, AreSinceClosed, IsTick, IsServing, IsFreeAfter, IsCommuting, IsClosing, IsNext, IsLatePut, IsUnseen}
 use Rattle.target_law.specs.Proper.{IsProperAsk, IsPostTo, IsCoreOf, IsChanOf}
 use Rattle.target_law.specs.Rules.{Rules, Owns}
@@ -18,10 +18,7 @@ each_weaker : {X : Type 0} {P Q : X → Type 0} → ((x : X) → P x → Q x) �
 each_weaker f [] h = tt
 each_weaker f (x ∷ xs) h = (f x h.0, each_weaker f xs h.1)
 
--- the core without its mark, and another core's value with the mark of this one
-abbrev bare : {Inner : Type 0} → CoreValue (MarkedInner Inner) → CoreValue Inner
-bare core = record { inner = core.inner.inner; inbox = core.inbox }
-
+-- another core's value with the mark of this one
 abbrev beside : {Inner : Type 0} → CoreValue (MarkedInner Inner) → CoreValue Inner → CoreValue (MarkedInner Inner)
 beside core c = record { inner = record { inner = c.inner; saved = core.inner.saved }; inbox = c.inbox }
 
