@@ -21,7 +21,7 @@ loop-chan-preserved g c =
     let chans = c.args.chans.now in
     let within : c.loop-chan.chan-index < length chans.items = omega (arith, c.loop-chan-test.true, c.deref_mut-chan-items.ensures.len, chans.ok.0) in
     viewed_more g.T.Target.values.chan (g.T.Target.rules c.args.target.now).close chans.items c.loop-chan.chan-items c.loop-chan.chan-index c.chan-item.result within c.chan-item.is
-    c.loop-chan.invariant c.close.new.chan c.close.ensures
+    c.loop-chan.invariant c.close.new.chan c.close.ensures.chan
 
 pub returns : goal.returns
 returns g c =
