@@ -6,6 +6,7 @@ use slack_base::{Ask, AskList, Id, OutOfMemory, Post, PostList};
 /// The same machine, which does the same. Contracts see the marks of its cores and channels as part of their values, which
 /// no put, tick, serving and closing changes. So it isn't marked through this one: the calls that mark say that memory is
 /// wanting.
+#[derive(Drop)]
 pub struct InSight<'a, T: Target> {
     target: &'a T,
 }
