@@ -1,5 +1,5 @@
 -- What a channel needs to know of its machine.
-use Rattle.std.specs.Prelude.{ℕ, ◌/◌}
+use Rattle.std.specs.Prelude.{ℕ}
 use Rattle.slack_base.specs.declared.configs.RawConfig.{RawConfig}
 use Rattle.slack_base.specs.Numbers.{lines_of}
 use Rattle.status_map.specs.declared.views.Delays.{Delays}

@@ -65,6 +65,21 @@ impl Bus {
         })
     }
 
+    /// An equal bus.
+    pub(crate) fn copy(&self) -> Result<Bus, OutOfMemory>
+        ensures { IfOk result (λ bus. bus ≡ self.now) }
+    {
+        let entries = Vec::from_slice(*self.entries.allocator(), self.entries.as_slice())?;
+        Ok(Bus {
+            setting: self.setting,
+            free: self.free,
+            asks: self.asks,
+            retries: self.retries,
+            entries,
+            highest: self.highest,
+        })
+    }
+
     /// Serves an ask. The posts are appended.
     #[tactic(auto, unfolding(crate::specs::Serving::bus_served))]
     pub(crate) fn serve(&mut self, ask: &Ask, out: &mut PostList) -> Result<(), OutOfMemory>

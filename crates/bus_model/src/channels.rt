@@ -1,5 +1,5 @@
 //! A channel: a bus or the console.
-ghost use Rattle.std.specs.Prelude.{◌≡◌, ◌+◌, ◌<◌, ◌≤◌, ◌++◌, [], None, Some, IfOk, OnOk};
+ghost use Rattle.std.specs.Prelude.{◌≡◌, ◌+◌, ◌<◌, ◌≤◌, ◌++◌, [], None, Some, IfOk, IsSome, OnErr, OnOk};
 ghost use Rattle.bus_model.specs.Asks.{channel_of};
 
 use crate::buses::Bus;
@@ -9,10 +9,12 @@ use status_map::EntryView;
 use std::alloc::Global;
 use std::marker::Model;
 
-/// A channel that asks go to, one after another. A contract sees its value.
+/// A channel that asks go to, one after another, and that may be marked, to come back to it as it was there. A contract
+/// sees its value, and its value at the mark where there is one.
 #[derive(Debug, Drop)]
 pub struct Channel {
     kind: Kind,
+    saved: Option<Kind>,
 }
 
 #[derive(Debug, Drop)]
@@ -22,13 +24,26 @@ enum Kind {
 }
 
 impl Model for Channel {
+    ghost use Rattle.slack_base.specs.Marks.{Marked};
     ghost use Rattle.bus_model.specs.Channels.{ChannelValue};
 
-    ghost Value = { ChannelValue };
+    ghost Value = { Marked ChannelValue };
 
-    ghost use Rattle.bus_model.specs.Kinds.{value_of};
+    ghost use Rattle.bus_model.specs.Kinds.{saved_of, value_of};
 
-    ghost view = { λ c. value_of c.kind };
+    ghost view = { λ c. record { value = value_of c.kind; saved = saved_of c.saved } };
+}
+
+impl Kind {
+    /// An equal channel.
+    fn copy(&self) -> Result<Kind, OutOfMemory>
+        ensures { IfOk result (λ copied. copied ≡ self.now) }
+    {
+        match self {
+            Kind::Bus(bus) => Ok(Kind::Bus(bus.copy()?)),
+            Kind::Console(console) => Ok(Kind::Console(console.copy()?)),
+        }
+    }
 }
 
 /// The number of the channel that an ask is of, in a machine with so many buses: the lines go round the buses, and a
@@ -62,32 +77,36 @@ impl Channel {
     ) -> Result<Channel, OutOfMemory>
         requires bus { index < config.now.buses }
         requires image { Fits config.now.base config.now.memory image.now }
-        ensures value { IfOk result (λ channel. channel ≡ AsBus (first_bus (numbers_of config.now) image.now index)) }
-        ensures sound { IfOk result (λ channel. IsSound channel) }
-        ensures setting { IfOk result (λ channel. bus_setting channel ≡ Some (setting_of (numbers_of config.now) index)) }
+        ensures value { IfOk result (λ channel. channel.value ≡ AsBus (first_bus (numbers_of config.now) image.now index)) }
+        ensures saved { IfOk result (λ channel. channel.saved ≡ None) }
+        ensures sound { IfOk result (λ channel. IsSound channel.value) }
+        ensures setting { IfOk result (λ channel. bus_setting channel.value ≡ Some (setting_of (numbers_of config.now) index)) }
     {
         let bus = Bus::new(alloc, index, config, image)?;
         Ok(Channel {
             kind: Kind::Bus(bus),
+            saved: None,
         })
     }
 
     /// The console with no bytes. It takes no memory.
     pub fn console(alloc: Global) -> Channel
-        ensures { result ≡ AsConsole (record { bytes = []; highest = None }) }
+        ensures { result ≡ record { value = AsConsole (record { bytes = []; highest = None }); saved = None } }
     {
         Channel {
             kind: Kind::Console(Console::new(alloc)),
+            saved: None,
         }
     }
 
     /// Serves an ask. The posts are appended, in the order in which they are sent.
     #[tactic(auto, unfolding(crate::specs::Serving::served))]
     pub fn serve(&mut self, ask: &Ask, out: &mut PostList) -> Result<(), OutOfMemory>
-        requires { MayServe self.old ask.now }
-        ensures channel { OnOk result (self.new ≡ (served self.old ask.now).0) }
-        ensures setting { OnOk result (bus_setting self.new ≡ bus_setting self.old) }
-        ensures posts { OnOk result (out.new ≡ out.old ++ (served self.old ask.now).1) }
+        requires { MayServe self.old.value ask.now }
+        ensures channel { OnOk result (self.new.value ≡ (served self.old.value ask.now).0) }
+        ensures saved { self.new.saved ≡ self.old.saved }
+        ensures setting { OnOk result (bus_setting self.new.value ≡ bus_setting self.old.value) }
+        ensures posts { OnOk result (out.new ≡ out.old ++ (served self.old.value ask.now).1) }
     {
         match &mut self.kind {
             Kind::Bus(bus) => bus.serve(ask, out),
@@ -97,15 +116,15 @@ impl Channel {
 
     /// The greatest id that the channel served since it was closed, where it is above the ask's. It takes no memory.
     pub fn clash(&self, ask: &Ask) -> Option<Id>
-        requires { MayServe self.now ask.now }
-        ensures { result ≡ clash self.now ask.now }
+        requires { MayServe self.now.value ask.now }
+        ensures { result ≡ clash self.now.value ask.now }
     {
         self.highest().above(ask.id())
     }
 
     /// The greatest id that the channel served since it was closed.
     fn highest(&self) -> HighestId
-        ensures { result ≡ highest_of self.now }
+        ensures { result ≡ highest_of self.now.value }
     {
         match &self.kind {
             Kind::Bus(bus) => bus.highest(),
@@ -115,8 +134,9 @@ impl Channel {
 
     /// Forgets the greatest id, and changes nothing else. It takes no memory.
     pub fn close(&mut self)
-        ensures channel { self.new ≡ closed self.old }
-        ensures setting { bus_setting self.new ≡ bus_setting self.old }
+        ensures channel { self.new.value ≡ closed self.old.value }
+        ensures saved { self.new.saved ≡ self.old.saved }
+        ensures setting { bus_setting self.new.value ≡ bus_setting self.old.value }
     {
         match &mut self.kind {
             Kind::Bus(bus) => bus.close(),
@@ -124,10 +144,40 @@ impl Channel {
         }
     }
 
+    /// Marks the channel as it stands. An older mark is replaced.
+    pub fn mark(&mut self) -> Result<(), OutOfMemory>
+        ensures marked { OnOk result (self.new ≡ record { value = self.old.value; saved = Some self.old.value }) }
+        ensures refused { OnErr result (self.new ≡ self.old) }
+    {
+        let copied = self.kind.copy()?;
+        self.saved = Some(copied);
+        Ok(())
+    }
+
+    /// The channel is again as it was at its mark, and isn't marked any more. It takes no memory.
+    pub fn undo(&mut self)
+        requires { IsSome self.old.saved }
+        ensures value { self.old.saved ≡ Some self.new.value }
+        ensures saved { self.new.saved ≡ None }
+    {
+        match self.saved.take() {
+            Some(saved) => self.kind = saved,
+            None => unreachable!(),
+        }
+    }
+
+    /// The channel stays as it is, and isn't marked any more. It takes no memory.
+    pub fn keep(&mut self)
+        requires { IsSome self.old.saved }
+        ensures { self.new ≡ record { value = self.old.value; saved = None } }
+    {
+        self.saved = None;
+    }
+
     /// The entry of a line of the bus.
     pub fn entry(&self, line: u32) -> EntryView
-        requires { HasLine self.now line }
-        ensures { entry_at self.now line ≡ Some result }
+        requires { HasLine self.now.value line }
+        ensures { entry_at self.now.value line ≡ Some result }
     {
         match &self.kind {
             Kind::Bus(bus) => bus.entry(line),
@@ -137,7 +187,7 @@ impl Channel {
 
     /// The entry of a line: none where the channel is no bus, or the line isn't one of it.
     pub fn find_entry(&self, line: u32) -> Option<EntryView>
-        ensures { result ≡ found_entry self.now line }
+        ensures { result ≡ found_entry self.now.value line }
     {
         match &self.kind {
             Kind::Bus(bus) => bus.find_entry(line),
@@ -147,7 +197,7 @@ impl Channel {
 
     /// The number of the bus: none on the console.
     pub fn number(&self) -> Option<u32>
-        ensures { result ≡ number_of self.now }
+        ensures { result ≡ number_of self.now.value }
     {
         match &self.kind {
             Kind::Bus(bus) => Some(bus.number()),
@@ -157,7 +207,7 @@ impl Channel {
 
     /// The cycle from which the bus is free: 0 on the console.
     pub fn free(&self) -> u64
-        ensures { result ≡ free_of self.now }
+        ensures { result ≡ free_of self.now.value }
     {
         match &self.kind {
             Kind::Bus(bus) => bus.free(),
@@ -167,7 +217,7 @@ impl Channel {
 
     /// How many asks the bus has served: 0 on the console.
     pub fn asks(&self) -> u64
-        ensures { result ≡ asks_of self.now }
+        ensures { result ≡ asks_of self.now.value }
     {
         match &self.kind {
             Kind::Bus(bus) => bus.asks(),
@@ -177,7 +227,7 @@ impl Channel {
 
     /// How many retries the bus has sent: 0 on the console.
     pub fn retries(&self) -> u64
-        ensures { result ≡ retries_of self.now }
+        ensures { result ≡ retries_of self.now.value }
     {
         match &self.kind {
             Kind::Bus(bus) => bus.retries(),
@@ -187,7 +237,7 @@ impl Channel {
 
     /// The bytes on the console: none on a bus.
     pub fn console_bytes(&self) -> &[u8]
-        ensures { result.now ≡ bytes_of self.now }
+        ensures { result.now ≡ bytes_of self.now.value }
     {
         match &self.kind {
             Kind::Bus(_) => &[],
@@ -197,7 +247,7 @@ impl Channel {
 
     /// How many lines of memory the bus has: 0 on the console.
     pub fn lines(&self) -> u32
-        ensures { result ≡ count_of self.now }
+        ensures { result ≡ count_of self.now.value }
     {
         match &self.kind {
             Kind::Bus(bus) => bus.lines(),

@@ -1,5 +1,5 @@
 //! The console: the bytes that were put on it.
-ghost use Rattle.std.specs.Prelude.{◌≡◌, [], None, OnOk};
+ghost use Rattle.std.specs.Prelude.{◌≡◌, [], None, IfOk, OnOk};
 
 use slack_base::{Ask, HighestId, OutOfMemory};
 use std::alloc::Global;
@@ -31,6 +31,17 @@ impl Console {
             bytes: Vec::new(alloc),
             highest: HighestId::none(),
         }
+    }
+
+    /// An equal console.
+    pub(crate) fn copy(&self) -> Result<Console, OutOfMemory>
+        ensures { IfOk result (λ console. console ≡ self.now) }
+    {
+        let bytes = Vec::from_slice(*self.bytes.allocator(), self.bytes.as_slice())?;
+        Ok(Console {
+            bytes,
+            highest: self.highest,
+        })
     }
 
     /// Serves an ask: appends the byte of a Put.

@@ -9,6 +9,7 @@ ghost use Rattle.bus_model.specs.Channels.{bus_setting};
 ghost use Rattle.bus_model.specs.Settings.{setting_of};
 
 mod exchanges;
+mod marks;
 
 use super::*;
 use exchanges::{
@@ -90,8 +91,9 @@ fn serve_on(
     ask: &Ask,
     out: &mut PostList,
 ) -> Result<bool, OutOfMemory>
-    requires { bus_setting bus.old ≡ Some (setting_of (numbers_of config.now) index) }
-    ensures { OnOk result (bus_setting bus.new ≡ bus_setting bus.old) }
+    requires { bus_setting bus.old.value ≡ Some (setting_of (numbers_of config.now) index) }
+    ensures setting { OnOk result (bus_setting bus.new.value ≡ bus_setting bus.old.value) }
+    ensures saved { bus.new.saved ≡ bus.old.saved }
 {
     if !is_of(index, config, ask) {
         return Ok(false);
@@ -103,7 +105,7 @@ fn serve_on(
 
 /// What an ask on the one bus clashes with, if it may be asked there.
 fn clash_on(bus: &Channel, config: &Config, ask: &Ask) -> Option<Id>
-    requires { bus_setting bus.now ≡ Some (setting_of (numbers_of config.now) 0) }
+    requires { bus_setting bus.now.value ≡ Some (setting_of (numbers_of config.now) 0) }
 {
     if !is_of(0, config, ask) {
         return None;
@@ -120,8 +122,9 @@ fn sends(
     wanted: &Option<(u32, u64, PostKind)>,
     out: &mut PostList,
 ) -> Result<bool, OutOfMemory>
-    requires { bus_setting bus.old ≡ Some (setting_of (numbers_of config.now) index) }
-    ensures { OnOk result (bus_setting bus.new ≡ bus_setting bus.old) }
+    requires { bus_setting bus.old.value ≡ Some (setting_of (numbers_of config.now) index) }
+    ensures setting { OnOk result (bus_setting bus.new.value ≡ bus_setting bus.old.value) }
+    ensures saved { bus.new.saved ≡ bus.old.saved }
 {
     if !serve_on(bus, index, config, ask, out)? {
         return Ok(false);
@@ -141,8 +144,9 @@ fn all_send(
     lines: &[Exchange],
     out: &mut PostList,
 ) -> Result<bool, OutOfMemory>
-    requires { bus_setting bus.old ≡ Some (setting_of (numbers_of config.now) index) }
-    ensures { OnOk result (bus_setting bus.new ≡ bus_setting bus.old) }
+    requires { bus_setting bus.old.value ≡ Some (setting_of (numbers_of config.now) index) }
+    ensures setting { OnOk result (bus_setting bus.new.value ≡ bus_setting bus.old.value) }
+    ensures saved { bus.new.saved ≡ bus.old.saved }
 {
     for ((core, cycle, number), line, request, wanted) in lines {
         let id = Id {
@@ -191,7 +195,7 @@ fn image(alloc: Global) -> Result<Image, OutOfMemory>
 /// The one bus of two cores.
 fn bus_of(alloc: Global, config: &Config) -> Result<Channel, OutOfMemory>
     requires { numbers_of config.now ≡ settled TWO_CORES }
-    ensures { IfOk result (λ bus. bus_setting bus ≡ Some (setting_of (numbers_of config.now) 0)) }
+    ensures { IfOk result (λ bus. bus_setting bus.value ≡ Some (setting_of (numbers_of config.now) 0)) }
 {
     let image = image(alloc)?;
     Channel::bus(alloc, 0, config, &image)

@@ -121,3 +121,14 @@ pub(super) const LAST_CYCLES: [Exchange; 3] = [
     ((1, 5, 0), 257, ReadOwn, Some((1, TOP + 2, Retry))),
     ((1, TOP, 0), 258, Read, Some((1, TOP + 10, ZEROS_ALONE))),
 ];
+
+/// Core 0 takes line 256.
+pub(super) const TAKEN: [Exchange; 1] = [((0, 1, 0), 256, ReadOwn, Some((0, 11, FIRST_ALONE)))];
+
+/// It reads another line, which core 1 may not have yet, and gives back the one that it took.
+#[rattlefmt::skip]
+pub(super) const GIVEN_BACK: [Exchange; 3] = [
+    ((0, 13, 0), 257, Read, Some((0, 23, ZEROS_ALONE))),
+    ((0, 14, 0), 256, WriteBack(7), None),
+    ((1, 14, 0), 257, Read, Some((1, 19, Retry))),
+];

@@ -12,4 +12,4 @@ returns-clause-channel c = first_of (search rules, grind (arith, common_steps))
 
 pub returns-clause-setting : goal.returns-clause-setting
 returns-clause-setting c =
-    on_ok_weaker c.match-self.result (λ h. ap bus_setting h ∙ setting_stays c.args.self.now c.args.ask.now) (returns-clause-channel c)
+    on_ok_weaker c.match-self.result (λ h. ap bus_setting h ∙ setting_stays c.args.self.now.value c.args.ask.now) (returns-clause-channel c)

@@ -5,4 +5,4 @@ use Rattle.bus_model.specs.Settings.{setting_of}
 use Rattle.bus_model.proofs.channels.tests.all_send.Given as goal
 
 abbrev pub invariant-loop-core : goal.invariant-loop-core
-invariant-loop-core l = bus_setting l.bus ≡ Some (setting_of (numbers_of l.config) l.index)
+invariant-loop-core l = (bus_setting l.bus.value ≡ Some (setting_of (numbers_of l.config) l.index)) × (l.bus.saved ≡ l.fn.bus.saved)
