@@ -1,5 +1,5 @@
 //! The inbox of a core: the posts that wait for it, in the order in which it applies them.
-ghost use Rattle.std.specs.Prelude.{◌≡◌, ◌+◌, ◌<◌, ◌≤◌, ◌↔◌, [], ◌∷◌, ◌++◌, length, take, drop, false, IsTrue, IsNone, IfNone, IfSome, OnOk, OnErr};
+ghost use Rattle.std.specs.Prelude.{◌≡◌, ◌+◌, ◌<◌, ◌≤◌, ◌↔◌, [], ◌∷◌, ◌++◌, length, take, drop, false, IsTrue, IsNone, IfNone, IfOk, IfSome, OnOk, OnErr};
 ghost use Rattle.std.specs.List.{AllByRecursion};
 ghost use Rattle.slack_base.specs.Inboxes.{is_later, with_post};
 ghost use Rattle.stamp_queue.specs.Inbox.{IsInOrder, IsPutBetween};
@@ -35,6 +35,16 @@ impl Inbox {
         Inbox {
             posts: Vec::new(alloc),
         }
+    }
+
+    /// An equal inbox.
+    pub fn copy(&self) -> Result<Inbox, OutOfMemory>
+        ensures same { IfOk result (λ copy. copy ≡ self.now) }
+        ensures in_order { IsInOrder self.now }
+    {
+        Ok(Inbox {
+            posts: self.posts.clone()?,
+        })
     }
 
     /// How many posts wait.
