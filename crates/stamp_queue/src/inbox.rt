@@ -37,13 +37,14 @@ impl Inbox {
         }
     }
 
-    /// An inbox with the same posts.
+    /// An equal inbox.
     pub fn copy(&self) -> Result<Inbox, OutOfMemory>
-        ensures { IfOk result (λ copy. copy ≡ self.now) }
+        ensures same { IfOk result (λ copy. copy ≡ self.now) }
+        ensures in_order { IsInOrder self.now }
     {
-        let mut posts = Vec::with_capacity(*self.posts.allocator(), self.posts.len())?;
-        posts.extend_from_slice(&self.posts)?;
-        Ok(Inbox { posts })
+        Ok(Inbox {
+            posts: self.posts.clone()?,
+        })
     }
 
     /// How many posts wait.

@@ -2,10 +2,10 @@
 use Rattle.std.proofs.Common.{◌≡◌, ◌∙◌, ℕ, ◌+◌, ◌<◌, Bool, true, false, List, [], ◌∷◌, ◌++◌, Option, None, Some, filter, length, nat_le, nat_lt, refl, subst, arith, cond}
 use Rattle.std.specs.List.{All, AllByRecursion}
 use Rattle.std.specs.Option.{IfSome}
-use Rattle.std.proofs.lemmas.List.Elements.{All-nil, All-cons, All-head, All-tail, All-filter}
+use Rattle.std.proofs.lemmas.List.Elements.{All-nil, All-head, All-tail, All-filter}
 use Rattle.slack_base.specs.declared.messages.Ask.{Ask}
 use Rattle.slack_base.specs.declared.messages.Post.{Post}
-use Rattle.slack_base.specs.Inboxes.{is_later, with_post}
+use Rattle.slack_base.specs.Inboxes.{is_later}
 use Rattle.slack_base.proofs.Inboxes.{all_with_post}
 use Rattle.slack_base.specs.Numbers.{lines_of}
 use Rattle.slack_base.specs.declared.configs.RawConfig.{RawConfig}

@@ -93,6 +93,23 @@ impl Hart {
         })
     }
 
+    /// An equal hart.
+    pub fn copy(&self) -> Result<Hart, OutOfMemory>
+        ensures { IfOk result (λ hart. hart ≡ self.now) }
+    {
+        Ok(Hart {
+            number: self.number,
+            pc: self.pc,
+            registers: self.registers,
+            reservation: self.reservation,
+            cache: self.cache.copy()?,
+            busy: self.busy,
+            waiting: self.waiting,
+            ended: self.ended,
+            counts: self.counts,
+        })
+    }
+
     pub fn number(&self) -> u32
         ensures { result ≡ self.now.number }
     {

@@ -6,6 +6,7 @@ pub mod code;
 pub mod effects;
 mod harts;
 pub mod laws;
+mod marks;
 pub mod timed_cores;
 
 pub use accesses::Access;

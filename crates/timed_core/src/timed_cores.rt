@@ -4,30 +4,34 @@ ghost use Rattle.timed_core.specs.Ticks.{asks_of, id_at, applied_all};
 
 use crate::code::Code;
 use crate::harts::Hart;
+use crate::marks::Saved;
 use mesi_cache::HeldLine;
 use slack_base::{Ask, AskList, Config, CoreEnd, Counts, Id, OutOfMemory, Post, TOP};
 use stamp_queue::Inbox;
 use std::alloc::Global;
 use std::marker::Model;
 
-/// A core: its registers, its cache, what is counted of it, and the posts that wait for it.
+/// A core: its registers, its cache, what is counted of it, and the posts that wait for it; and the core as it was at
+/// its mark, where it is marked. The readers tell of the core as it is now.
 #[derive(Drop)]
 pub struct TimedCore {
     hart: Hart,
     inbox: Inbox,
+    saved: Option<Saved>,
 }
 
 impl Model for TimedCore {
     ghost use Rattle.slack_base.specs.Inboxes.{CoreValue};
+    ghost use Rattle.slack_base.specs.Marks.{Marked};
     ghost use Rattle.timed_core.specs.Cores.{HartValue};
 
-    ghost Value = { CoreValue HartValue };
+    ghost Value = { Marked (CoreValue HartValue) };
 
-    ghost view = { λ c. record { inner = c.hart; inbox = c.inbox } };
+    ghost view = { λ c. record { value = record { inner = c.hart; inbox = c.inbox }; saved = c.saved } };
 }
 
 impl TimedCore {
-    ghost use Rattle.std.specs.Prelude.{◌≡◌, ◌<◌, ◌≤◌, ◌++◌, [], IfOk, OnOk, OnErr, not, slice_index};
+    ghost use Rattle.std.specs.Prelude.{◌≡◌, ◌<◌, ◌≤◌, ◌++◌, [], IfOk, IsSome, OnOk, OnErr, None, Some, not, slice_index};
     ghost use Rattle.slack_base.specs.Numbers.{numbers_of};
     ghost use Rattle.slack_base.specs.Inboxes.{with_put, tick_by};
     ghost use Rattle.slack_base.specs.declared.bounds.TheConstants.{TOP};
@@ -36,7 +40,7 @@ impl TimedCore {
     ghost use Rattle.timed_core.specs.Ticks.{tick};
     ghost use Rattle.timed_core.specs.Touches.{touched_of};
 
-    /// A core before the first cycle, whose pc is `entry`.
+    /// A core before the first cycle, whose pc is `entry`. It isn't marked.
     pub fn new(
         alloc: Global,
         number: u32,
@@ -44,24 +48,25 @@ impl TimedCore {
         entry: u32,
     ) -> Result<TimedCore, OutOfMemory>
         requires { number < config.now.cores }
-        ensures { IfOk result (λ core. core ≡ record { inner = first_core (numbers_of config.now) entry number; inbox = [] }) }
+        ensures { IfOk result (λ core. core ≡ record { value = record { inner = first_core (numbers_of config.now) entry number; inbox = [] }; saved = None }) }
     {
         Ok(TimedCore {
             hart: Hart::new(alloc, number, config, entry)?,
             inbox: Inbox::new(alloc),
+            saved: None,
         })
     }
 
     /// The core's number.
     pub fn number(&self) -> u32
-        ensures { result ≡ self.now.inner.number }
+        ensures { result ≡ self.now.value.inner.number }
     {
         self.hart.number()
     }
 
     /// The address of the next instruction.
     pub fn pc(&self) -> u32
-        ensures { result ≡ self.now.inner.pc }
+        ensures { result ≡ self.now.value.inner.pc }
     {
         self.hart.pc()
     }
@@ -69,28 +74,28 @@ impl TimedCore {
     /// The register of this number, below 32.
     pub fn reg(&self, n: u32) -> u32
         requires { n < 32 }
-        ensures { result ≡ slice_index self.now.inner.registers n }
+        ensures { result ≡ slice_index self.now.value.inner.registers n }
     {
         self.hart.reg(n)
     }
 
     /// The address of the word that is reserved: none where there is no reservation.
     pub fn reservation(&self) -> Option<u32>
-        ensures { result ≡ self.now.inner.reservation }
+        ensures { result ≡ self.now.value.inner.reservation }
     {
         self.hart.reservation()
     }
 
     /// The state and the words of a line of memory: none where the core's cache doesn't hold it.
     pub fn held(&self, line: u32) -> Option<HeldLine>
-        ensures { result ≡ held_in self.now.inner.cache line }
+        ensures { result ≡ held_in self.now.value.inner.cache line }
     {
         self.hart.held(line)
     }
 
     /// Whether the core is running, or how it ended.
     pub fn end(&self) -> CoreEnd
-        ensures end { result ≡ self.now.inner.ended }
+        ensures end { result ≡ self.now.value.inner.ended }
         ensures bound { IsBy TOP result }
     {
         self.hart.end()
@@ -98,28 +103,29 @@ impl TimedCore {
 
     /// Whether the core is running.
     pub fn is_running(&self) -> bool
-        ensures { result ≡ is_running self.now.inner.ended }
+        ensures { result ≡ is_running self.now.value.inner.ended }
     {
         self.hart.is_running()
     }
 
     /// Whether the core has ended. It goes on applying posts.
     pub fn has_ended(&self) -> bool
-        ensures { result ≡ not (is_running self.now.inner.ended) }
+        ensures { result ≡ not (is_running self.now.value.inner.ended) }
     {
         !self.hart.is_running()
     }
 
     /// What is counted of the core.
     pub fn counts(&self) -> Counts
-        ensures { result ≡ self.now.inner.counts }
+        ensures { result ≡ self.now.value.inner.counts }
     {
         self.hart.counts()
     }
 
     /// Puts a post into the inbox, behind those of the same due and id that are there.
     pub fn put(&mut self, post: Post) -> Result<(), OutOfMemory>
-        ensures ok { OnOk result (self.new ≡ with_put post self.old) }
+        ensures ok { OnOk result (self.new.value ≡ with_put post self.old.value) }
+        ensures saved { self.new.saved ≡ self.old.saved }
         ensures err { OnErr result (self.new ≡ self.old) }
     {
         self.inbox.put(post)
@@ -128,7 +134,7 @@ impl TimedCore {
     /// The cycle from which on the core touched no more what the post is about: nothing is known of it, so it is the
     /// greatest, `TOP`. It takes no memory.
     pub fn touched(&self, _post: &Post) -> u64
-        ensures { result ≡ touched_of self.now.inner _post.now }
+        ensures { result ≡ touched_of self.now.value.inner _post.now }
     {
         TOP
     }
@@ -136,18 +142,51 @@ impl TimedCore {
     /// One tick at a cycle: the posts that are due are applied in their order, and then the core does nothing if it
     /// has ended, spends a cycle if it is busy or waits for a line, and else executes an instruction. The asks that
     /// it sends are appended, numbered from 0. `code` is the instruction memory of the core's machine, and tells which
-    /// addresses are in memory too. After want of memory the core may be changed in part, and is only to be dropped.
+    /// addresses are in memory too. After want of memory the core may be changed in part, and is only to be dropped or
+    /// taken back to its mark.
     #[tactic(auto, unfolding(crate::specs::Ticks::tick))]
     pub fn tick(&mut self, code: &Code, cycle: u64, out: &mut AskList) -> Result<(), OutOfMemory>
         requires { cycle ≤ TOP }
-        ensures core { OnOk result (self.new ≡ (tick_by (tick code.now) cycle self.old).0) }
-        ensures asks { OnOk result (out.new ≡ out.old ++ (tick_by (tick code.now) cycle self.old).1) }
+        ensures core { OnOk result (self.new.value ≡ (tick_by (tick code.now) cycle self.old.value).0) }
+        ensures saved { self.new.saved ≡ self.old.saved }
+        ensures asks { OnOk result (out.new ≡ out.old ++ (tick_by (tick code.now) cycle self.old.value).1) }
     {
         let before = out.len();
         apply_due(&mut self.hart, &mut self.inbox, code.base(), cycle, out)?;
         let id = id_at(cycle, &self.hart, out.len() - before);
         let ask = self.hart.step(code, id);
         send(ask, out)
+    }
+
+    /// Marks the core as it is now, by a whole copy. An older mark is replaced; where there is no memory for the new
+    /// one, nothing changes.
+    pub fn mark(&mut self) -> Result<(), OutOfMemory>
+        ensures ok { OnOk result (self.new ≡ record { value = self.old.value; saved = Some self.old.value }) }
+        ensures err { OnErr result (self.new ≡ self.old) }
+    {
+        let saved = Saved::of(&self.hart, &self.inbox)?;
+        self.saved = Some(saved);
+        Ok(())
+    }
+
+    /// Takes the core back to what it was at its mark, which is used up. It takes no memory.
+    pub fn undo(&mut self)
+        requires { IsSome self.old.saved }
+        ensures value { self.old.saved ≡ Some self.new.value }
+        ensures saved { self.new.saved ≡ None }
+    {
+        if let Some(saved) = self.saved.take() {
+            self.hart = saved.hart;
+            self.inbox = saved.inbox;
+        }
+    }
+
+    /// Gives up the mark, and leaves the core as it is. It takes no memory.
+    pub fn keep(&mut self)
+        requires { IsSome self.old.saved }
+        ensures { self.new ≡ record { value = self.old.value; saved = None } }
+    {
+        self.saved = None;
     }
 }
 

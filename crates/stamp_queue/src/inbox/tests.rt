@@ -142,3 +142,18 @@ fn nothing_is_lost(rt: HostRuntime) -> Result<(), Fail> {
     assert!(rt; inbox.is_empty());
     Ok(())
 }
+
+/// What is put into an inbox or taken from it later leaves its copy as it was.
+#[test]
+fn a_copy_stands_alone(rt: HostRuntime) -> Result<(), Fail> {
+    let (first, last) = (post(5, 1, 0), post(9, 1, 1));
+    let mut inbox = inbox_of(rt.alloc(), &[last, first])?;
+    let mut copy = inbox.copy()?;
+    assert_eq!(rt; inbox.take_due(9), Some(first));
+    inbox.put(post(4, 2, 0))?;
+    assert_eq!(rt; copy.len(), 2);
+    assert_eq!(rt; copy.take_due(9), Some(first));
+    assert_eq!(rt; copy.take_due(9), Some(last));
+    assert!(rt; copy.is_empty());
+    Ok(())
+}

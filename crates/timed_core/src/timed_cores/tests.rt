@@ -6,6 +6,7 @@ ghost use Rattle.slack_base.specs.Images.{Fits};
 
 mod addresses;
 mod instructions;
+mod marks;
 mod parts;
 mod posts;
 mod prepared;

@@ -6,7 +6,7 @@ use Rattle.timed_core.specs.Ticks.{stepped, asks_of, id_at}
 use Rattle.timed_core.proofs.Due.{IsDone, IsTicked, ticked}
 use Rattle.timed_core.proofs.timed_cores.TimedCore.tick.Goals as goal
 
-whole : (c : goal.After-send) → IsTicked c.args.code.now c.args.cycle c.args.self.now (stepped c.args.code.now c.id_at-id.result c.apply_due.new.hart).0 c.apply_due.new.inbox c.args.out.now (c.apply_due.new.out ++ asks_of (stepped c.args.code.now c.id_at-id.result c.apply_due.new.hart).1)
+whole : (c : goal.After-send) → IsTicked c.args.code.now c.args.cycle c.args.self.now.value (stepped c.args.code.now c.id_at-id.result c.apply_due.new.hart).0 c.apply_due.new.inbox c.args.out.now (c.apply_due.new.out ++ asks_of (stepped c.args.code.now c.id_at-id.result c.apply_due.new.hart).1)
 whole c =
     let code = c.args.code.now in
     let t = c.args.cycle in
@@ -23,7 +23,7 @@ whole c =
     }) in
     let numbered : id ≡ id_at t hart (length out - c.len-before.result) =
     c.id_at-id.ensures ∙ ap (λ n. id_at t hart (n - c.len-before.result)) c.len.ensures in
-    subst (λ core. IsTicked code t core (stepped code id hart).0 left sent (out ++ asks_of (stepped code id hart).1)) c.self.view_is
+    subst (λ core. IsTicked code t core.value (stepped code id hart).0 left sent (out ++ asks_of (stepped code id hart).1)) c.self.view_is
     (ticked code t c.len-before.result first hart left sent out id c.len-before.ensures c.in_ok-apply_due.ensures.inbox posts numbered)
 
 pub returns-clause-core : goal.returns-clause-core
