@@ -26,8 +26,10 @@ each_of : {X V : Type 0} (saved : X → Option V) (xs : List X) → Each (λ x. 
 each_of saved [] all = tt
 each_of saved (x ∷ xs) all = (all.0, each_of saved xs all.1)
 
-pub all_some : {X V : Type 0} (saved : X → Option V) (xs : List X) (vs : List V) → map saved xs ≡ map Some vs → All (λ x. IsSome (saved x)) xs
-all_some saved xs vs e = All-from_recursion (λ x. IsSome (saved x)) xs (each_of saved xs (subst (Each (λ x. IsSome x)) (sym e) (each_some vs)))
+-- of items that are lent
+pub all_some : {X V : Type 0} (saved : X → Option V) (old lent : List X) (marks : List V) → lent ≡ old → map saved old ≡ map Some marks → All (λ x. IsSome (saved x)) lent
+all_some saved old lent marks same marked =
+    All-from_recursion (λ x. IsSome (saved x)) lent (each_of saved lent (subst (Each (λ x. IsSome x)) (sym (ap (map saved) same ∙ marked)) (each_some marks)))
 
 -- as many items as there were replace all of them
 replaced_all : {X : Type 0} (old new : List X) → length new ≡ length old → replaced old new ≡ new

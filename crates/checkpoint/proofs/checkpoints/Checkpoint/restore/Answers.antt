@@ -1,17 +1,19 @@
-use Rattle.std.proofs.Common.{◌∙◌, sym, ap, map}
+use Rattle.std.proofs.Common.{rules, sym}
 use Rattle.target_law.proofs.Lockstep.{state_path}
 use Rattle.checkpoint.proofs.Whole.{all_some, put_back}
 use Rattle.checkpoint.proofs.checkpoints.Checkpoint.restore.Goals as goal
 
 pub undo_cores-requires-after_bounds : goal.undo_cores-requires-after_bounds
 undo_cores-requires-after_bounds g c κs within =
-    let saved = g.T.Target.values.saved_core in
-    all_some saved c.as_mut_slice.result.now c.requires.0.cores (ap (map saved) c.as_mut_slice.ensures.value ∙ c.requires.1.cores)
+    let values = g.T.Target.values in
+    let all = all_some values.saved_core c.args.state.now.cores c.as_mut_slice.result.now c.requires.0.cores c.as_mut_slice.ensures.value c.requires.1.cores in
+    search rules
 
 pub undo_chans-requires-after_bounds : goal.undo_chans-requires-after_bounds
 undo_chans-requires-after_bounds g c κs within =
-    let saved = g.T.Target.values.saved_chan in
-    all_some saved c.as_mut_slice-2.result.now c.requires.0.chans (ap (map saved) c.as_mut_slice-2.ensures.value ∙ c.requires.1.chans)
+    let values = g.T.Target.values in
+    let all = all_some values.saved_chan c.args.state.now.chans c.as_mut_slice-2.result.now c.requires.0.chans c.as_mut_slice-2.ensures.value c.requires.1.chans in
+    search rules
 
 pub returns-clause-state : goal.returns-clause-state
 returns-clause-state g c s clock marked =
