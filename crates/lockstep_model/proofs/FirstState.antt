@@ -1,13 +1,14 @@
 -- The state before the first cycle.
-use Rattle.std.proofs.Common.{◌≡◌, ◌∙◌, ℕ, ◌+◌, ◌<◌, ◌≤◌, List, [], ◌∷◌, ◌++◌, map, length, refl, sym, ap, subst, arith, zero, suc}
+use Rattle.std.proofs.Common.{◌≡◌, ◌∙◌, ℕ, ◌+◌, ◌<◌, ◌≤◌, List, [], ◌∷◌, ◌++◌, None, map, length, refl, sym, ap, subst, arith, zero, suc}
 use Rattle.std.specs.List.{All, range_with_len}
-use Rattle.std.proofs.lemmas.List.{length-map}
-use Rattle.std.proofs.lemmas.List.Elements.{All-nil, All-cons}
+use Rattle.std.proofs.lemmas.List.{length-map, map-append}
+use Rattle.std.proofs.lemmas.List.Elements.{All-nil, All-cons, All-append}
 use Rattle.std.proofs.lemmas.List.FromFn.{length-range_with_len}
 use Rattle.slack_base.specs.declared.configs.RawConfig.{RawConfig}
 use Rattle.slack_base.specs.declared.images.Image.{Image}
 use Rattle.slack_base.specs.declared.messages.Post.{Post}
 use Rattle.slack_base.specs.Inboxes.{CoreValue}
+use Rattle.slack_base.specs.Marks.{Marked}
 use Rattle.first_memory.specs.Memory.{bytes_from}
 use Rattle.bus_model.specs.Channels.{ChannelValue, AsBus, AsConsole, IsSound}
 use Rattle.bus_model.specs.Closing.{closed}
@@ -21,11 +22,19 @@ use Rattle.target_law.specs.Numbered.{AllNumbered}
 use Rattle.target_law.specs.Proper.{IsCoreOf, IsChanOf}
 use Rattle.lockstep_model.specs.Rules.{rules_of, owns_of, number_in}
 use Rattle.lockstep_model.specs.Start.{first_core_value, first_console, IsFirstChannel}
+use Rattle.lockstep_model.specs.Views.{values_of}
 
 -- one item more
 pub numbered_more : {X : Type 0} (P : ℕ → X → Type 0) (n k : ℕ) (xs : List X) (x : X) → k ≡ n + length xs → AllNumbered P n xs → P k x → AllNumbered P n (xs ++ x ∷ [])
 numbered_more P n k [] x e all is = let at : k ≡ n = omega arith in (subst (λ m. P m x) at is, tt)
 numbered_more P n k (y ∷ xs) x e all is = (all.0, numbered_more P (n + 1) k xs x (omega arith) all.1 is)
+
+-- one more that may be marked
+pub values_more : {X : Type 0} (xs : List (Marked X)) (x : Marked X) (before : List X) (value : X) → values_of xs ≡ before → x.value ≡ value → values_of (xs ++ x ∷ []) ≡ before ++ value ∷ []
+values_more xs x before value many one = map-append (λ y. y.value) xs (x ∷ []) ∙ ap (λ ys. ys ++ x.value ∷ []) many ∙ ap (λ y. before ++ y ∷ []) one
+
+pub unmarked_more : {X : Type 0} (xs : List (Marked X)) (x : Marked X) → All (λ y. y.saved ≡ None) xs → x.saved ≡ None → All (λ y. y.saved ≡ None) (xs ++ x ∷ [])
+unmarked_more xs x all one = All-append (λ y. y.saved ≡ None) xs (x ∷ []) all (All-cons (λ y. y.saved ≡ None) x [] one (All-nil (λ y. y.saved ≡ None)))
 
 count_of : (image : Image) (config : RawConfig) → length (code_of image config).bytes ≡ config.memory
 unfolding bytes_from

@@ -1,2 +1,1 @@
 mod FirstState
-pub mod Views

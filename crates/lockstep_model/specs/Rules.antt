@@ -3,6 +3,7 @@ use Rattle.std.specs.Prelude.{ℕ, ◌+◌, ◌≡◌, ◌&&◌, Bool, true, Opt
 use Rattle.slack_base.specs.declared.bounds.TheConstants.{TOP}
 use Rattle.slack_base.specs.declared.configs.RawConfig.{RawConfig}
 use Rattle.slack_base.specs.Inboxes.{CoreValue}
+use Rattle.slack_base.specs.Marks.{Marked}
 use Rattle.slack_base.specs.Messages.{id_of, line_of}
 use Rattle.slack_base.specs.Numbers.{lines_of}
 use Rattle.bus_model.specs.Asks.{channel_of}
@@ -58,6 +59,11 @@ pub record IsOwnChannel (config : RawConfig) (chan : ChannelValue) : Type 0 wher
 abbrev pub owns_of : RawConfig → Owns HartValue ChannelValue
 owns_of config = record { core = IsSoundHart config; chan = IsOwnChannel config }
 
--- a stored core and a stored channel are seen as their values
-abbrev pub stored_values : Values (CoreValue HartValue) ChannelValue HartValue ChannelValue
-stored_values = record { core = λ core. core; chan = λ chan. chan }
+-- a stored core and a stored channel are seen as their present values and those at their marks
+abbrev pub stored_values : Values (Marked (CoreValue HartValue)) (Marked ChannelValue) HartValue ChannelValue
+stored_values = record {
+  core = λ core. core.value;
+  chan = λ chan. chan.value;
+  saved_core = λ core. core.saved;
+  saved_chan = λ chan. chan.saved;
+}

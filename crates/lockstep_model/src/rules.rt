@@ -87,6 +87,30 @@ impl Target for RvTarget {
         core.touched(post)
     }
 
+    fn mark_core(&self, core: &mut TimedCore) -> Result<(), OutOfMemory> {
+        core.mark()
+    }
+
+    fn undo_core(&self, core: &mut TimedCore) {
+        core.undo();
+    }
+
+    fn keep_core(&self, core: &mut TimedCore) {
+        core.keep();
+    }
+
+    fn mark_chan(&self, chan: &mut Channel) -> Result<(), OutOfMemory> {
+        chan.mark()
+    }
+
+    fn undo_chan(&self, chan: &mut Channel) {
+        chan.undo();
+    }
+
+    fn keep_chan(&self, chan: &mut Channel) {
+        chan.keep();
+    }
+
     ghost laws = { λ t. lawful (numbers_of t.config) t.code (machine_from (numbers_of t.config) t.code t.config.cores_in_bounds.0 t.config.buses_in_bounds t.config.memory_in_bounds.0 t.whole t.config.memory_delay_in_bounds.0 t.config.snoop_in_bounds.0 t.config.transfer_in_bounds.0) };
 }
 

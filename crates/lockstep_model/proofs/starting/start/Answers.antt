@@ -17,9 +17,12 @@ returns-clause-proper c =
     let chans = c.in_ok-first_channels.ensures in
     record {
       clock = omega arith;
-      core_count = ap length cores ∙ length-map-range_with_len (first_core_value config entry) 0 config.cores;
-      cores = subst (AllNumbered (IsCoreOf (rules_of config code) (owns_of config)) 0) (sym cores) (first_cores_are config code entry 0 config.cores (omega arith));
+      core_count = ap length cores.cores ∙ length-map-range_with_len (first_core_value config entry) 0 config.cores;
+      cores = subst (AllNumbered (IsCoreOf (rules_of config code) (owns_of config)) 0) (sym cores.cores) (first_cores_are config code entry 0 config.cores (omega arith));
       chan_count = chans.count;
       chans = first_channels_are config code 0 _ chans.each;
       closed = first_closed config 0 _ chans.each;
     }
+
+pub returns-clause-unmarked : goal.returns-clause-unmarked
+returns-clause-unmarked c = record { cores = c.in_ok-first_cores.ensures.unmarked; chans = c.in_ok-first_channels.ensures.unmarked }
