@@ -1,0 +1,2 @@
+pub mod LockstepEnds
+pub mod Speculative
