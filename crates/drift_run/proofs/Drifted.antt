@@ -1,6 +1,5 @@
 -- What is handed back is a drift of its state.
-use Rattle.std.proofs.Common.{◌≡◌, ◌∙◌, ℕ, ◌+◌, ◌≤◌, List, sym, ap, subst, arith}
-use Rattle.slack_base.specs.declared.bounds.TheConstants.{TOP}
+use Rattle.std.proofs.Common.{◌≡◌, ◌∙◌, ℕ, List, sym, ap, subst}
 use Rattle.slack_base.specs.declared.histories.Drift.{Drift}
 use Rattle.slack_base.specs.declared.histories.Violation.{Violation}
 use Rattle.target_law.specs.Cycles.{StateValue}
@@ -9,9 +8,8 @@ use Rattle.target_law.specs.Laws.{Laws}
 use Rattle.target_law.specs.Proper.{IsProper}
 use Rattle.target_law.specs.Rules.{Rules, Owns}
 use Rattle.violation_watch.specs.Scan.{scan_of}
-use Rattle.violation_watch.proofs.Join.{complete}
 use Rattle.drive_script.specs.Open.{IsOpen}
-use Rattle.drive_script.specs.Scripts.{history, closed, IsExactIfQuiet}
+use Rattle.drive_script.specs.Scripts.{history, closed}
 use Rattle.drive_script.specs.Worlds.{WorldValue}
 use Rattle.drive_script.proofs.Closed.{closed_proper}
 
@@ -29,9 +27,3 @@ module _ {Inner Chan : Type 0} (rules : Rules Inner Chan) (s : StateValue Inner 
   module _ (owns : Owns Inner Chan) (laws : Laws rules owns) where
     pub whole_proper : IsOpen rules owns world → IsProper rules owns e
     whole_proper is = subst (IsProper rules owns) (sym end_is) (closed_proper rules owns laws world is)
-
-    pub whole_exact : (found : List Violation) → IsProper rules owns s → s.clock + len ≤ TOP → IsDrift rules s (history s.clock len world) (closed rules world) → found ≡ scan_of rules (history s.clock len world) → IsExactIfQuiet rules s d found e
-    whole_exact found proper top is seen punctual quiet =
-        let drifts = whole_drift is in
-        let clock : e.clock ≡ s.clock + len = drifts.clock ∙ ap (λ (x : Drift). x.start + x.len) drift_is in
-        complete rules owns laws s d e proper punctual drifts (omega (arith, clock, top)) (sym (whole_seen found seen) ∙ quiet)

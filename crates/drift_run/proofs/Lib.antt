@@ -2,6 +2,7 @@ pub mod Zips
 pub mod Pushed
 pub mod Rigged
 pub mod Leaving
+pub mod Marked
 pub mod Ordered
 pub mod Watched
 pub mod Drifted

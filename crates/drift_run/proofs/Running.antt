@@ -1,5 +1,5 @@
 -- A run that goes from drift to drift.
-use Rattle.std.proofs.Common.{◌≡◌, ◌∙◌, ℕ, ◌+◌, ◌<◌, List, [], ◌∷◌, ◌++◌, sym, ap, subst, arith}
+use Rattle.std.proofs.Common.{◌≡◌, ℕ, ◌+◌, ◌<◌, List, [], ◌∷◌, ◌++◌, sym, ap, subst, arith}
 use Rattle.slack_base.specs.declared.histories.Drift.{Drift}
 use Rattle.slack_base.specs.declared.histories.Violation.{Violation}
 use Rattle.slack_base.specs.declared.notes.Interval.{Interval}

@@ -9,6 +9,7 @@ ghost use Rattle.drive_script.specs.Views.{world_of};
 ghost use Rattle.manager.specs.Leads.{Led};
 ghost use Rattle.target_law.specs.Cycles.{StateValue};
 ghost use Rattle.target_law.specs.Drifts.{IsDrift};
+ghost use Rattle.target_law.specs.Marks.{SameMarks};
 ghost use Rattle.target_law.specs.Proper.{IsProper};
 ghost use Rattle.target_law.specs.Views.{state_of};
 ghost use Rattle.violation_watch.specs.Scan.{scan_of};
@@ -25,7 +26,7 @@ use settle::{Settled, settle};
 use slack_base::{OutOfMemory, ViolationList};
 use std::alloc::Global;
 use std::thread::Threads;
-use target_law::{Drifted, State, Target};
+use target_law::{Drifted, InSight, State, Target};
 
 /// How a drift by threads is paced.
 #[derive(Clone, Copy, Debug, PartialEq, Eq)]
@@ -110,6 +111,34 @@ fn run<
     Ok(Finished { world, seen })
 }
 
+/// A drift, of which nothing is said on the marks of cores and channels.
+fn plain_drift<R: Threads + Sync, T: Target + Sync, G: Gate + Sync>(
+    rt: &R,
+    alloc: Global,
+    target: &T,
+    state: State<T>,
+    len: u64,
+    pace: &Pace,
+    gate: &G,
+) -> Result<Drifted<T>, OutOfMemory>
+    requires proper { IsProper (T.rules target.now) (T.owns target.now) (state_of T.values state) }
+    requires top { state.clock + len ≤ TOP }
+    requires slack { (1 ≤ pace.now.slack) × (pace.now.slack ≤ TOP) }
+    requires slots { 1 ≤ pace.now.slots }
+    ensures drift { IfOk result (λ r. IsDrift (T.rules target.now) (state_of T.values state) r.drift (state_of T.values r.end)) }
+    ensures len { IfOk result (λ r. r.drift.len ≡ len) }
+    ensures proper { IfOk result (λ r. IsProper (T.rules target.now) (T.owns target.now) (state_of T.values r.end)) }
+    ensures seen { IfOk result (λ r. r.seen ≡ scan_of (T.rules target.now) r.drift) }
+    ensures holds { IfOk result (λ r. KeepsHolds (record { may = G.may_hold gate.now; must = G.must_hold gate.now }) (T.rules target.now).cores pace.now.slack state.clock len r.drift.served) }
+{
+    let start = state.clock;
+    let rig = make_rig(alloc, target, state, pace.slack, pace.slots)?;
+    let finished = run(rt, alloc, target, gate, rig, start + len, pace.patience)?;
+    let Finished { world, seen } = finished;
+    let (end, drift) = close(alloc, target, world, start, len)?;
+    Ok(Drifted { end, drift, seen })
+}
+
 /// A drift over so many cycles from a state: the legs of all cores and of the manager, each in a thread of its own, and
 /// then finishing. The history, the end and what the monitors record are handed back. Which drift of those that can be
 /// comes out depends on the threads.
@@ -130,6 +159,8 @@ pub fn drift<R: Threads + Sync, T: Target + Sync, G: Gate + Sync>(
     requires slots { 1 ≤ pace.now.slots }
     // The history is that of a drift from the state to the end.
     ensures drift { IfOk result (λ r. IsDrift (T.rules target.now) (state_of T.values state) r.drift (state_of T.values r.end)) }
+    // Each core and each channel has the mark that it had.
+    ensures marks { IfOk result (λ r. SameMarks T.values state r.end) }
     ensures len { IfOk result (λ r. r.drift.len ≡ len) }
     ensures proper { IfOk result (λ r. IsProper (T.rules target.now) (T.owns target.now) (state_of T.values r.end)) }
     ensures seen { IfOk result (λ r. r.seen ≡ scan_of (T.rules target.now) r.drift) }
@@ -138,10 +169,27 @@ pub fn drift<R: Threads + Sync, T: Target + Sync, G: Gate + Sync>(
     // Where the gate holds a core alone, the early asks of the others were served before its first.
     ensures holds { IfOk result (λ r. KeepsHolds (record { may = G.may_hold gate.now; must = G.must_hold gate.now }) (T.rules target.now).cores pace.now.slack state.clock len r.drift.served) }
 {
-    let start = state.clock;
-    let rig = make_rig(alloc, target, state, pace.slack, pace.slots)?;
-    let finished = run(rt, alloc, target, gate, rig, start + len, pace.patience)?;
-    let Finished { world, seen } = finished;
-    let (end, drift) = close(alloc, target, world, start, len)?;
+    let State {
+        clock,
+        cores,
+        chans,
+    } = state;
+    let state = State {
+        clock,
+        cores,
+        chans,
+    };
+    let drifted = plain_drift(rt, alloc, &InSight::of(target), state, len, pace, gate)?;
+    let Drifted { end, drift, seen } = drifted;
+    let State {
+        clock,
+        cores,
+        chans,
+    } = end;
+    let end = State {
+        clock,
+        cores,
+        chans,
+    };
     Ok(Drifted { end, drift, seen })
 }

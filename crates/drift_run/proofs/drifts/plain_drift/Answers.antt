@@ -4,8 +4,8 @@ use Rattle.slack_base.specs.declared.histories.Drift.{Drift}
 use Rattle.target_law.specs.Views.{state_of}
 use Rattle.drive_script.specs.Views.{world_of}
 use Rattle.drift_run.specs.Holds.{KeepsHolds}
-use Rattle.drift_run.proofs.Drifted.{whole_len, whole_seen, whole_drift, whole_proper, whole_exact}
-use Rattle.drift_run.proofs.drifts.drift.Goals as goal
+use Rattle.drift_run.proofs.Drifted.{whole_len, whole_seen, whole_drift, whole_proper}
+use Rattle.drift_run.proofs.drifts.plain_drift.Goals as goal
 
 pub run-requires-clause-ready : goal.run-requires-clause-ready
 run-requires-clause-ready g c κs bounds =
@@ -43,16 +43,6 @@ returns-clause-seen g c =
     let end = c.in_ok-end.ensures in
     whole_seen (g.T.Target.rules c.args.target.now) s c.args.len (world_of values c.in_ok-finished.finished.world) c.in_ok-end.drift (state_of values c.in_ok-end.end) end.drift end.end
     c.in_ok-finished.finished.seen (c.in_ok-finished.ensures.seen s.clock c.args.len refl)
-
-pub returns-clause-exact : goal.returns-clause-exact
-returns-clause-exact g c =
-    let t = c.args.target.now in
-    let values = g.T.Target.values in
-    let s = state_of values c.args.state in
-    let end = c.in_ok-end.ensures in
-    whole_exact (g.T.Target.rules t) s c.args.len (world_of values c.in_ok-finished.finished.world) c.in_ok-end.drift (state_of values c.in_ok-end.end) end.drift end.end
-    (g.T.Target.owns t) ((g.met.T.Target g.world.𝓛 g.world.𝓜 g.world.𝓡 ((λ s x. x), (λ x. x), (λ x. x), λ x. x)).laws t) c.in_ok-finished.finished.seen c.requires.proper c.requires.top
-    (c.in_ok-finished.ensures.drift s c.args.len refl c.requires.proper c.in_ok-rig.ensures.come) (c.in_ok-finished.ensures.seen s.clock c.args.len refl)
 
 pub returns-clause-holds : goal.returns-clause-holds
 returns-clause-holds g c =

@@ -1,0 +1,19 @@
+-- What an item is marked, taken back and kept as. An item is seen as its value and the value at its mark.
+use Rattle.std.proofs.Common.{◌≡◌, Option, Some, None}
+
+module _ {X V : Type 0} (value : X → V) (saved : X → Option V) where
+  pub record GetsMarked (old now : X) : Type 0 where
+    pub same : value now ≡ value old
+    pub mark : saved now ≡ Some (value old)
+
+  pub record GoesBack (old now : X) : Type 0 where
+    pub back : saved old ≡ Some (value now)
+    pub no_mark : saved now ≡ None
+
+  pub record GetsKept (old now : X) : Type 0 where
+    pub same : value now ≡ value old
+    pub no_mark : saved now ≡ None
+
+-- its mark is as it was
+abbrev pub HasSameMark : {X V : Type 0} → (X → Option V) → X → X → Type 0
+HasSameMark saved old now = saved now ≡ saved old

@@ -1,0 +1,34 @@
+use Rattle.std.proofs.Common.{◌<◌, ◌≤◌, ◌≡◌, ◌∙◌, IsSome, None, length, rules, sym, subst}
+use Rattle.checkpoint.proofs.Becoming.{GetsKept}
+use Rattle.checkpoint.proofs.OneByOne.{at_first, not_yet, changed_next, all_maps, all_are}
+use Rattle.checkpoint.proofs.marks.keep_cores.Goals as goal
+
+pub loop-core-init : goal.loop-core-init
+loop-core-init g c = at_first (GetsKept g.T.Target.values.core g.T.Target.values.saved_core) c.args.cores.now
+
+pub keep_core-requires : goal.keep_core-requires
+keep_core-requires g c =
+    let Becomes = GetsKept g.T.Target.values.core g.T.Target.values.saved_core in
+    let within : c.loop-core.core-index < length c.args.cores.now = search rules in
+    let item = c.core-item.result in
+    let is = not_yet Becomes c.loop-core.core-index c.args.cores.now c.loop-core.cores item within c.loop-core.invariant c.core-item.is in
+    subst (λ x. IsSome (g.T.Target.values.saved_core x)) (sym is ∙ c.core-item.is) (c.requires c.loop-core.core-index item within)
+
+pub loop-core-preserved : goal.loop-core-preserved
+loop-core-preserved g c =
+    let Becomes = GetsKept g.T.Target.values.core g.T.Target.values.saved_core in
+    let within : c.loop-core.core-index < length c.args.cores.now = search rules in
+    changed_next Becomes c.loop-core.core-index c.args.cores.now c.loop-core.cores c.core-item.result c.keep_core.new.core within c.loop-core.invariant
+    (record { same = c.keep_core.ensures.core; no_mark = c.keep_core.ensures.saved })
+
+pub returns-clause-cores : goal.returns-clause-cores
+returns-clause-cores g c =
+    let Becomes = GetsKept g.T.Target.values.core g.T.Target.values.saved_core in
+    let done : length c.args.cores.now ≤ c.loop-core.core-index = search rules in
+    all_maps Becomes g.T.Target.values.core g.T.Target.values.core (λ x y one. one.same) c.loop-core.core-index c.args.cores.now c.loop-core.cores done c.loop-core.invariant
+
+pub returns-clause-unmarked : goal.returns-clause-unmarked
+returns-clause-unmarked g c =
+    let Becomes = GetsKept g.T.Target.values.core g.T.Target.values.saved_core in
+    let done : length c.args.cores.now ≤ c.loop-core.core-index = search rules in
+    all_are Becomes (λ x. g.T.Target.values.saved_core x ≡ None) (λ x y one. one.no_mark) c.loop-core.core-index c.args.cores.now c.loop-core.cores done c.loop-core.invariant
