@@ -1,5 +1,5 @@
 //! Running the image of an order.
-ghost use Rattle.std.specs.Prelude.{◌≡◌, ◌+◌, ◌*◌, ◌^◌, ◌≤◌, length, IfOk, IsTrue};
+ghost use Rattle.std.specs.Prelude.{◌≡◌, ◌+◌, ◌*◌, ◌^◌, ◌≤◌, length, IfOk};
 ghost use Rattle.slack_base.specs.declared.bounds.TheConstants.{MOST_CORES};
 ghost use Rattle.slack_base.specs.Images.{Fits};
 ghost use Rattle.lockstep_model.specs.Views.{machine_of};
@@ -28,7 +28,7 @@ pub fn run_by<R: Threads + Sync, G: Gate + Sync>(
     ensures drift_ticks { IfOk result (λ r. r.drift_ticks ≡ drift_ticks_of order.now.config.cores r.notes) }
     ensures replay_ticks { IfOk result (λ r. r.replay_ticks ≡ replay_ticks_of order.now.config.cores r.notes) }
     ensures cores { IfOk result (λ r. length r.machine.cores ≤ MOST_CORES) }
-    ensures lines { IfOk result (λ r. order.now.config.base + 16 * lines_in r.machine.chans ≤ 2 ^ 32) }
+    ensures lines { IfOk result (λ r. order.now.config.base + 16 * lines_in (machine_of r.machine).chans ≤ 2 ^ 32) }
 {
     let ran = run_image(
         rt,
