@@ -1,17 +1,15 @@
 -- A run of one interval, and the cycles of notes.
-use Rattle.std.proofs.Common.{◌≡◌, ◌∙◌, ℕ, ◌+◌, ◌-◌, ◌*◌, ◌<◌, ◌≤◌, ◌||◌, List, [], ◌∷◌, ◌++◌, sum_by, refl, sym, ap, subst, arith}
-use Rattle.std.proofs.Math.Nat.{mul-le-mul_right}
+use Rattle.std.proofs.Common.{◌≡◌, ◌∙◌, ℕ, ◌+◌, ◌-◌, ◌<◌, ◌≤◌, ◌||◌, List, [], ◌++◌, sum_by, ap, subst, arith}
 use Rattle.std.proofs.lemmas.List.Sums.{sum_by-cons, sum_by-append}
-use Rattle.slack_base.specs.declared.histories.Drift.{Drift}
 use Rattle.slack_base.specs.declared.notes.Interval.{Interval}
-use Rattle.slack_base.specs.declared.notes.Interval.TheVariants.{Kept, Rolled, Bounded}
+use Rattle.slack_base.specs.declared.notes.Interval.TheVariants.{Bounded}
 use Rattle.target_law.specs.Cycles.{StateValue, all_ended}
 use Rattle.target_law.specs.Rules.{Rules}
 use Rattle.target_law.specs.Runs.{Ends, Goes, first, next, at_once, later, span}
 use Rattle.target_law.proofs.Running.{same_number}
 use Rattle.violation_watch.specs.BoundedNotes.{Kind, IsBoundedBy}
 use Rattle.violation_watch.specs.Scan.{scan_of}
-use Rattle.target_law.specs.Ticks.{cycles_of, replayed_of}
+use Rattle.target_law.specs.Ticks.{cycles_of}
 
 module _ {Inner Chan : Type 0} (rules : Rules Inner Chan) (kind : Kind rules) where
   -- one interval that comes to the limit is a whole run
@@ -34,9 +32,9 @@ module _ {Inner Chan : Type 0} (rules : Rules Inner Chan) (kind : Kind rules) wh
 
 module _ {Inner Chan : Type 0} (rules : Rules Inner Chan) (kind : Kind rules) (interval limit : ℕ) (s : StateValue Inner Chan) where
   -- so far the notes have as many cycles as the clock rose
-  record IsCounted (notes : List Interval) (e : StateValue Inner Chan) : Type 0 where
-    cycles : sum_by cycles_of notes + s.clock ≡ e.clock
-    low : e.clock ≤ limit
+  pub record IsCounted (notes : List Interval) (e : StateValue Inner Chan) : Type 0 where
+    pub cycles : s.clock + sum_by cycles_of notes ≡ e.clock
+    pub low : e.clock ≤ limit
 
   counted : {notes : List Interval} {e : StateValue Inner Chan} → Goes rules interval limit (IsBoundedBy rules kind) s notes e → IsCounted notes e
   counted (first {notes = notes} {e = e} low is) =
@@ -49,7 +47,7 @@ module _ {Inner Chan : Type 0} (rules : Rules Inner Chan) (kind : Kind rules) (i
   counted (next {notes = notes} {added = added} {m = m} {e = e} goes on is) =
       let so_far = counted goes in
       let k = span interval limit m in
-      let before : sum_by cycles_of notes + s.clock ≡ m.clock = so_far.cycles in
+      let before : s.clock + sum_by cycles_of notes ≡ m.clock = so_far.cycles in
       let below : m.clock ≤ limit = so_far.low in
       let cycles : sum_by cycles_of added ≡ k = cycles_of_one rules kind k m added e (record { drift = is.drift; of_kind = is.of_kind; fits = is.fits; len = is.len; noted = is.noted }) in
       let both : sum_by cycles_of (notes ++ added) ≡ sum_by cycles_of notes + sum_by cycles_of added = sum_by-append cycles_of notes added in
@@ -58,7 +56,7 @@ module _ {Inner Chan : Type 0} (rules : Rules Inner Chan) (kind : Kind rules) (i
       let ends : e.clock ≡ is.drift.start + is.drift.len = is.fits.clock in
       record { cycles = omega (arith, before, cycles, both, start, len, ends); low = omega (arith, below, start, len, ends) }
 
-  -- the notes of a run have no more cycles than its limit
-  pub cycles_within : {notes : List Interval} {e : StateValue Inner Chan} → Ends rules interval limit (IsBoundedBy rules kind) s notes e → sum_by cycles_of notes ≤ limit
-  cycles_within (at_once same) = omega arith
-  cycles_within (later {notes = notes} {e = e} goes over) = let all = counted goes in omega (arith, all.cycles, all.low)
+  -- and at the end of a run
+  pub run_cycles : {notes : List Interval} {e : StateValue Inner Chan} → Ends rules interval limit (IsBoundedBy rules kind) s notes e → IsCounted notes e
+  run_cycles (at_once same) = record { cycles = omega arith; low = omega arith }
+  run_cycles (later goes over) = counted goes

@@ -1,12 +1,11 @@
--- What is so of a machine's rules and states is so of those that are equal to them.
+-- What is so of a machine's rules and of the state that a run begins in is so of those that are equal to them.
 use Rattle.std.proofs.Common.{◌≡◌, ◌∙◌, ℕ, ◌-◌, List, ap, subst, arith}
 use Rattle.target_law.specs.Cycles.{StateValue, lockstep}
 use Rattle.target_law.specs.Rules.{Rules}
 
-module _ {Inner Chan : Type 0} (P : Rules Inner Chan → StateValue Inner Chan → StateValue Inner Chan → Type 0) where
-  pub moved : (R rules : Rules Inner Chan) (s start e m : StateValue Inner Chan) → R ≡ rules → s ≡ start → e ≡ m → P R s e → P rules start m
-  moved R rules s start e m same_rules same_start same_end is =
-      subst (P rules start) same_end (subst (λ x. P rules x e) same_start (subst (λ x. P x s e) same_rules is))
+module _ {Inner Chan : Type 0} (P : Rules Inner Chan → StateValue Inner Chan → Type 0) where
+  pub moved : (R rules : Rules Inner Chan) (s start : StateValue Inner Chan) → R ≡ rules → s ≡ start → P R s → P rules start
+  moved R rules s start same_rules same_start is = subst (P rules) same_start (subst (λ x. P x s) same_rules is)
 
 -- from a state at clock 0
 pub lockstep_from_zero : {Inner Chan : Type 0} (rules : Rules Inner Chan) (s e : StateValue Inner Chan) → s.clock ≡ 0 → e ≡ lockstep rules s (e.clock - s.clock) → e ≡ lockstep rules s e.clock

@@ -1,5 +1,5 @@
 -- The machine and the notes at the end of a run.
-use Rattle.std.specs.Prelude.{◌≡◌, ℕ, List, [], All, IsTrue}
+use Rattle.std.specs.Prelude.{◌≡◌, ℕ, List, [], All, IsTrue, sum_by}
 use Rattle.slack_base.specs.declared.images.Image.{Image}
 use Rattle.slack_base.specs.declared.configs.RawConfig.{RawConfig}
 use Rattle.slack_base.specs.declared.notes.Interval.{Interval}
@@ -7,10 +7,11 @@ use Rattle.slack_base.specs.declared.steps.Step.{Step}
 use Rattle.bus_model.specs.Channels.{ChannelValue}
 use Rattle.timed_core.specs.Code.{code_of}
 use Rattle.timed_core.specs.Cores.{HartValue}
-use Rattle.target_law.specs.Cycles.{StateValue, lockstep, IsLockstepOf}
+use Rattle.target_law.specs.Cycles.{StateValue, lockstep}
 use Rattle.target_law.specs.Rules.{Rules}
 use Rattle.target_law.specs.Runs.{Ends}
 use Rattle.target_law.specs.Stops.{Stops}
+use Rattle.target_law.specs.Ticks.{cycles_of}
 use Rattle.lockstep_model.specs.Rules.{rules_of}
 use Rattle.lockstep_model.specs.Start.{start_of}
 use Rattle.sim_words.specs.declared.values.Mode.{Mode}
@@ -18,12 +19,8 @@ use Rattle.sim_words.specs.declared.values.Mode.TheVariants.{Lockstep, Quantum}
 use Rattle.io_edge.specs.Holds.{Holds}
 use Rattle.violation_watch.specs.BoundedNotes.{Kind, IsBoundedBy}
 use Rattle.pacing.specs.Exact.{seen_of}
-use Rattle.image_run.specs.Modes.{is_exact, limit_in, step_in}
-
--- the state is lockstep's, at the checkpoint where a run cycle by cycle stops
-pub record IsLockstepAt {Inner Chan : Type 0} (rules : Rules Inner Chan) (interval limit : ℕ) (s e : StateValue Inner Chan) : Type 0 where
-  pub state : IsLockstepOf rules s e
-  pub stops : Stops rules interval limit s e.clock
+use Rattle.spec_run.specs.LockstepEnds.{IsLockstepAt}
+use Rattle.image_run.specs.Modes.{is_exact, is_noted, limit_in, step_in}
 
 module _ {Inner Chan : Type 0} (rules : Rules Inner Chan) where
   -- a run whose intervals are drifts of one kind, each noted, left these notes and this state
@@ -38,6 +35,10 @@ module _ {Inner Chan : Type 0} (rules : Rules Inner Chan) where
   -- in an exact mode it ended as lockstep does
   abbrev pub IsExactIn : RawConfig → Mode → (s e : StateValue Inner Chan) → Type 0
   IsExactIn config mode s e = IsTrue (is_exact mode config) → IsLockstepAt rules config.interval config.limit s e
+
+-- in a mode that notes each interval, the notes have all cycles that were run
+abbrev pub IsCountedIn : Mode → List Interval → (cycles : ℕ) → Type 0
+IsCountedIn mode notes cycles = IsTrue (is_noted mode) → sum_by cycles_of notes ≡ cycles
 
 -- in quantum mode, where it is exact, the monitors record nothing
 abbrev pub IsQuietIn : RawConfig → Mode → List Interval → Type 0
@@ -59,4 +60,5 @@ pub record IsRunEnd (holds : Holds) (config : RawConfig) (mode : Mode) (steps : 
   pub exact : IsTrue (is_exact mode config) → IsLockstepEnd config image m
   -- cycle by cycle there is nothing to note
   pub silent : mode ≡ Lockstep → notes ≡ []
+  pub counted : IsCountedIn mode notes m.clock
   pub quiet : IsQuietIn config mode notes

@@ -13,14 +13,7 @@ use Rattle.drive_script.specs.Scripts.{IsScriptOf}
 use Rattle.pacing.specs.Pieces.{IsPieces}
 use Rattle.io_edge.specs.Holds.{Holds}
 use Rattle.drift_run.specs.BoundedRuns.{IsHolding}
-
--- the modes that are there
-abbrev pub is_built : Mode → Bool
-is_built Lockstep = true
-is_built Quantum = true
-is_built Bounded = true
-is_built Speculative = false
-is_built Script = true
+use Rattle.spec_run.specs.Speculative.{IsSpeculated}
 
 -- the modes whose runs end as lockstep does; quantum mode is one where a piece is no longer than the least time from an ask
 -- to its post
@@ -28,8 +21,16 @@ abbrev pub is_exact : Mode → RawConfig → Bool
 is_exact Lockstep config = true
 is_exact Quantum config = nat_le config.quantum (lookahead_of (delays_of config))
 is_exact Bounded config = false
-is_exact Speculative config = false
+is_exact Speculative config = true
 is_exact Script config = false
+
+-- the modes that note each interval
+abbrev pub is_noted : Mode → Bool
+is_noted Lockstep = false
+is_noted Quantum = true
+is_noted Bounded = true
+is_noted Speculative = true
+is_noted Script = true
 
 -- the cycle that a run doesn't pass: a given interleaving is of one interval
 abbrev pub limit_in : Mode → RawConfig → ℕ
@@ -39,10 +40,10 @@ limit_in Bounded config = config.limit
 limit_in Speculative config = config.limit
 limit_in Script config = min config.interval config.limit
 
--- what an interval may do, under a gate that holds cores so; in a mode that isn't there, nothing
+-- what an interval may do, under a gate that holds cores so
 abbrev pub step_in : {Inner Chan : Type 0} → (rules : Rules Inner Chan) → Holds → Mode → RawConfig → List GivenStep → Step rules
 step_in rules holds Lockstep config steps = IsExact rules
 step_in rules holds Quantum config steps = IsBoundedBy rules (IsPieces rules config.quantum)
 step_in rules holds Bounded config steps = IsBoundedBy rules (IsHolding rules holds config.slack)
-step_in rules holds Speculative config steps = λ notes k s added e. ⊥
+step_in rules holds Speculative config steps = IsSpeculated rules holds config.slack
 step_in rules holds Script config steps = IsBoundedBy rules (IsScriptOf rules steps)

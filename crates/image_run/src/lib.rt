@@ -4,5 +4,4 @@
 pub mod modes;
 pub mod runs;
 
-pub use modes::is_built;
 pub use runs::{Ran, run_image};

@@ -1,5 +1,5 @@
 //! A run in each of the modes, of any machine.
-ghost use Rattle.std.specs.Prelude.{◌≡◌, ◌+◌, ◌-◌, ◌<◌, ◌≤◌, [], IfOk, IsTrue, sum_by};
+ghost use Rattle.std.specs.Prelude.{◌≡◌, ◌+◌, ◌*◌, ◌<◌, ◌≤◌, [], IfOk, sum_by};
 ghost use Rattle.slack_base.specs.declared.bounds.TheConstants.{TOP};
 ghost use Rattle.slack_base.specs.Numbers.{numbers_of};
 ghost use Rattle.bus_model.specs.Laws.{lookahead_of};
@@ -11,8 +11,9 @@ ghost use Rattle.drive_script.specs.Scripts.{IsScriptOf};
 ghost use Rattle.pacing.specs.Exact.{IsExactIfShort};
 ghost use Rattle.pacing.specs.QuantumRuns.{IsQuantumRun};
 ghost use Rattle.drift_run.specs.BoundedRuns.{IsBoundedRun};
-ghost use Rattle.image_run.specs.Ends.{IsExactIn, IsQuietIn, IsRunFrom, RunsBy};
-ghost use Rattle.image_run.specs.Modes.{is_built};
+ghost use Rattle.image_run.specs.Ends.{IsCountedIn, IsExactIn, IsQuietIn, IsRunFrom, RunsBy};
+ghost use Rattle.spec_run.specs.LockstepEnds.{IsLockstepAt};
+ghost use Rattle.spec_run.specs.Speculative.{IsSpeculativeRun};
 ghost use Rattle.target_law.specs.Ticks.{cycles_of};
 
 use drift_run::{Pace, bounded_run};
@@ -21,21 +22,12 @@ use io_edge::Gate;
 use pacing::quantum_run;
 use sim_words::Mode;
 use slack_base::{Config, NoteList, OutOfMemory, StepList};
+use spec_run::{Run, Speculated, speculate};
 use std::alloc::Global;
 use std::thread::Threads;
 use target_law::{Bounded, State, Target, run};
 
-/// Whether the mode is there.
-pub fn is_built(mode: Mode) -> bool
-    ensures { result ≡ is_built mode }
-{
-    matches!(
-        mode,
-        Mode::Lockstep | Mode::Quantum | Mode::Bounded | Mode::Script
-    )
-}
-
-/// A run from clock 0 in a mode that is there, by these steps if it is of a given interleaving.
+/// A run from clock 0 in a mode, by these steps if it is of a given interleaving.
 pub fn run_in_mode<R: Threads + Sync, T: Target + Sync, G: Gate + Sync>(
     rt: &R,
     alloc: Global,
@@ -46,15 +38,16 @@ pub fn run_in_mode<R: Threads + Sync, T: Target + Sync, G: Gate + Sync>(
     mode: Mode,
     steps: &StepList,
 ) -> Result<Bounded<T>, OutOfMemory>
-    requires mode { IsTrue (is_built mode) }
     requires begins { state.clock ≡ 0 }
     requires lookahead { (T.rules target.now).lookahead ≡ lookahead_of (delays_of (numbers_of config.now)) }
+    requires few { (T.rules target.now).cores * config.now.limit ≤ TOP }
     requires proper { IsProper (T.rules target.now) (T.owns target.now) (state_of T.values state) }
     requires punctual { IsPunctual (state_of T.values state) }
     ensures ends { IfOk result (λ r. IsRunFrom (T.rules target.now) (record { may = G.may_hold gate.now; must = G.must_hold gate.now }) (numbers_of config.now) mode steps.now (state_of T.values state) r.notes (state_of T.values r.end)) }
     ensures exact { IfOk result (λ r. IsExactIn (T.rules target.now) (numbers_of config.now) mode (state_of T.values state) (state_of T.values r.end)) }
     ensures silent { IfOk result (λ r. mode ≡ Mode.Lockstep → r.notes ≡ []) }
     ensures quiet { IfOk result (λ r. IsQuietIn (numbers_of config.now) mode r.notes) }
+    ensures counted { IfOk result (λ r. IsCountedIn mode r.notes r.end.clock) }
     ensures few { IfOk result (λ r. sum_by cycles_of r.notes ≤ config.now.limit) }
     ensures proper { IfOk result (λ r. IsProper (T.rules target.now) (T.owns target.now) (state_of T.values r.end)) }
 {
@@ -82,7 +75,16 @@ pub fn run_in_mode<R: Threads + Sync, T: Target + Sync, G: Gate + Sync>(
             limit,
             u64::from(config.slack),
         ),
-        Mode::Speculative => unreachable!(),
+        Mode::Speculative => run_speculative(
+            rt,
+            alloc,
+            gate,
+            target,
+            state,
+            interval,
+            limit,
+            u64::from(config.slack),
+        ),
     }
 }
 
@@ -126,7 +128,8 @@ pub fn run_quantum<R: Threads + Sync, T: Target + Sync>(
     requires proper { IsProper (T.rules target.now) (T.owns target.now) (state_of T.values state) }
     ensures ends { IfOk result (λ r. IsQuantumRun (T.rules target.now) quantum interval limit (state_of T.values state) r.notes (state_of T.values r.end)) }
     ensures exact { IfOk result (λ r. IsExactIfShort (T.rules target.now) interval limit quantum (state_of T.values state) r.notes (state_of T.values r.end)) }
-    ensures few { IfOk result (λ r. sum_by cycles_of r.notes ≤ limit) }
+    ensures counted { IfOk result (λ r. state.clock + sum_by cycles_of r.notes ≡ r.end.clock) }
+    ensures low { IfOk result (λ r. r.end.clock ≤ limit) }
     ensures proper { IfOk result (λ r. IsProper (T.rules target.now) (T.owns target.now) (state_of T.values r.end)) }
 {
     quantum_run(rt, alloc, target, state, interval, limit, quantum)
@@ -154,7 +157,8 @@ pub fn run_bounded<R: Threads + Sync, T: Target + Sync, G: Gate + Sync>(
     requires slack { (1 ≤ slack) × (slack ≤ TOP) }
     requires proper { IsProper (T.rules target.now) (T.owns target.now) (state_of T.values state) }
     ensures ends { IfOk result (λ r. IsBoundedRun (T.rules target.now) (record { may = G.may_hold gate.now; must = G.must_hold gate.now }) slack interval limit (state_of T.values state) r.notes (state_of T.values r.end)) }
-    ensures few { IfOk result (λ r. sum_by cycles_of r.notes ≤ limit) }
+    ensures counted { IfOk result (λ r. state.clock + sum_by cycles_of r.notes ≡ r.end.clock) }
+    ensures low { IfOk result (λ r. r.end.clock ≤ limit) }
     ensures proper { IfOk result (λ r. IsProper (T.rules target.now) (T.owns target.now) (state_of T.values r.end)) }
 {
     let pace = Pace {
@@ -179,9 +183,44 @@ pub fn run_script<T: Target>(
     requires one { limit ≤ state.clock + interval }
     requires proper { IsProper (T.rules target.now) (T.owns target.now) (state_of T.values state) }
     ensures ends { IfOk result (λ r. RunsBy (T.rules target.now) (IsScriptOf (T.rules target.now) steps.now) interval limit (state_of T.values state) r.notes (state_of T.values r.end)) }
-    ensures cycles { IfOk result (λ r. sum_by cycles_of r.notes ≡ limit - state.clock) }
+    ensures counted { IfOk result (λ r. state.clock + sum_by cycles_of r.notes ≡ r.end.clock) }
+    ensures low { IfOk result (λ r. r.end.clock ≤ limit) }
     ensures proper { IfOk result (λ r. IsProper (T.rules target.now) (T.owns target.now) (state_of T.values r.end)) }
 {
     let cycles = limit - state.clock;
     script_run(alloc, target, state, cycles, steps)
+}
+
+/// A run of drifts by threads, each of which is taken back and simulated cycle by cycle where its monitors saw something.
+pub fn run_speculative<R: Threads + Sync, T: Target + Sync, G: Gate + Sync>(
+    rt: &R,
+    alloc: Global,
+    gate: &G,
+    target: &T,
+    state: State<T>,
+    interval: u64,
+    limit: u64,
+    slack: u64,
+) -> Result<Bounded<T>, OutOfMemory>
+    requires begins { state.clock ≤ limit }
+    requires few { (T.rules target.now).cores * limit ≤ TOP }
+    requires interval { 1 ≤ interval }
+    requires slack { (1 ≤ slack) × (slack ≤ TOP) }
+    requires proper { IsProper (T.rules target.now) (T.owns target.now) (state_of T.values state) }
+    requires punctual { IsPunctual (state_of T.values state) }
+    ensures ends { IfOk result (λ r. IsSpeculativeRun (T.rules target.now) (record { may = G.may_hold gate.now; must = G.must_hold gate.now }) slack interval limit (state_of T.values state) r.notes (state_of T.values r.end)) }
+    ensures exact { IfOk result (λ r. IsLockstepAt (T.rules target.now) interval limit (state_of T.values state) (state_of T.values r.end)) }
+    ensures counted { IfOk result (λ r. state.clock + sum_by cycles_of r.notes ≡ r.end.clock) }
+    ensures low { IfOk result (λ r. r.end.clock ≤ limit) }
+    ensures proper { IfOk result (λ r. IsProper (T.rules target.now) (T.owns target.now) (state_of T.values r.end)) }
+{
+    let run = Run {
+        slack,
+        interval,
+        limit,
+        patience: PATIENCE,
+        slots: SLOTS,
+    };
+    let Speculated { end, notes, .. } = speculate(rt, alloc, target, state, &run, gate)?;
+    Ok(Bounded { end, notes })
 }

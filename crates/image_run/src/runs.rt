@@ -1,12 +1,11 @@
 //! Running an image.
-ghost use Rattle.std.specs.Prelude.{◌≡◌, IfOk, IsTrue};
+ghost use Rattle.std.specs.Prelude.{◌≡◌, IfOk};
 ghost use Rattle.slack_base.specs.Images.{Fits};
 ghost use Rattle.slack_base.specs.Numbers.{numbers_of};
 ghost use Rattle.target_law.specs.Proper.{IsProper};
 ghost use Rattle.lockstep_model.specs.Rules.{owns_of};
 ghost use Rattle.lockstep_model.specs.Views.{machine_of};
 ghost use Rattle.image_run.specs.Ends.{IsRunEnd, rules_for};
-ghost use Rattle.image_run.specs.Modes.{is_built};
 ghost use Rattle.target_law.specs.Ticks.{drift_ticks_of, replay_ticks_of};
 
 use crate::modes::run_in_mode;
@@ -28,7 +27,7 @@ pub struct Ran {
     pub replay_ticks: u64,
 }
 
-/// Runs an image in a mode that is there, by these steps if it is of a given interleaving, to the checkpoint where the run
+/// Runs an image in a mode, by these steps if it is of a given interleaving, to the checkpoint where the run
 /// stops.
 pub fn run_image<R: Threads + Sync, G: Gate + Sync>(
     rt: &R,
@@ -40,7 +39,6 @@ pub fn run_image<R: Threads + Sync, G: Gate + Sync>(
     image: &Image,
 ) -> Result<Ran, OutOfMemory>
     requires image { Fits config.now.base config.now.memory image.now }
-    requires mode { IsTrue (is_built mode) }
     ensures end { IfOk result (λ r. IsRunEnd (record { may = G.may_hold gate.now; must = G.must_hold gate.now }) (numbers_of config.now) mode steps.now image.now r.notes (machine_of r.machine)) }
     ensures proper { IfOk result (λ r. IsProper (rules_for (numbers_of config.now) image.now) (owns_of (numbers_of config.now)) (machine_of r.machine)) }
     ensures drift_ticks { IfOk result (λ r. r.drift_ticks ≡ drift_ticks_of config.now.cores r.notes) }

@@ -56,10 +56,6 @@ HasOutput (Limit cycle running) = Unit {0}
 HasOutput WriteFault = Unit {0}
 HasOutput _ = ⊥
 
--- the answer is this one, or want of memory
-abbrev pub IsOrWants : Answer → Answer → Type 0
-IsOrWants expected answer = (answer ≡ expected) ⊎ (answer ≡ OutOfMemory)
-
 -- the answer is the refusal, or want of memory
 abbrev pub IsRefusedBy : Option Answer → Answer → Type 0
 IsRefusedBy refusal answer = (answer ≡ OutOfMemory) ⊎ (refusal ≡ Some answer)

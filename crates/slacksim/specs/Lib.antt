@@ -1,6 +1,6 @@
 pub mod Answers
+pub mod Headline
 pub mod Inputs
-pub mod Orders
 pub mod Outputs
 pub mod RunValues
 pub mod Texts

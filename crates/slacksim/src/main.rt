@@ -4,7 +4,6 @@
 mod answers;
 mod faults;
 mod inputs;
-mod orders;
 mod outputs;
 mod runs;
 mod simulation;

@@ -9,7 +9,6 @@ ghost use Rattle.stat_report.specs.Listing.{IsListing};
 ghost use Rattle.lockstep_model.specs.Views.{machine_of};
 ghost use Rattle.slacksim.specs.Answers.{IsRefusedBy, IsWhole, answer_at, answer_of, all_zero_of, is_zero_exit, running_of};
 ghost use Rattle.slacksim.specs.Inputs.{image_told, image_refusal, text_refusal, refusal_by};
-ghost use Rattle.image_run.specs.Modes.{is_built};
 ghost use Rattle.target_law.specs.Ticks.{drift_ticks_of, replay_ticks_of};
 ghost use Rattle.slacksim.specs.RunValues.{RunValue, no_run, run_value, run_of};
 ghost use Rattle.slacksim.specs.Outputs.{IsOutputBy, IsRunOutput, IsGenOutput, IsAsmOutput, IsListOutput};
@@ -56,7 +55,6 @@ pub fn output_of<R: Threads + Sync, G: Gate + Sync>(
     order: &Order,
     input: &[u8],
 ) -> Result<Output, Answer>
-    requires mode { IsTrue (is_built order.now.mode) }
     requires short { length input.now < 2 ^ 32 }
     requires room { order.now.command ≡ Command.Gen → GENERATED_MEMORY ≤ order.now.config.memory }
     ensures output { IfOk result (λ out. IsOutputBy order.now.command (record { may = G.may_hold gate.now; must = G.must_hold gate.now }) (order_value order.now) input.now (run_value out.run) out.text) }
@@ -81,7 +79,6 @@ fn run_output<R: Threads + Sync, G: Gate + Sync>(
     order: &Order,
     input: &[u8],
 ) -> Result<Output, Answer>
-    requires { IsTrue (is_built order.now.mode) }
     ensures output { IfOk result (λ out. IsRunOutput (record { may = G.may_hold gate.now; must = G.must_hold gate.now }) (order_value order.now) input.now (run_value out.run) out.text) }
     ensures answer { IfOk result (λ out. out.answer ≡ answer_at (run_value out.run).end) }
     ensures whole { IfOk result (λ out. IsWhole out.answer) }
@@ -101,7 +98,6 @@ fn gen_output<R: Threads + Sync, G: Gate + Sync>(
     gate: &G,
     order: &Order,
 ) -> Result<Output, OutOfMemory>
-    requires mode { IsTrue (is_built order.now.mode) }
     requires room { GENERATED_MEMORY ≤ order.now.config.memory }
     ensures output { IfOk result (λ out. IsGenOutput (record { may = G.may_hold gate.now; must = G.must_hold gate.now }) (order_value order.now) (run_value out.run) out.text) }
     ensures answer { IfOk result (λ out. out.answer ≡ answer_at (run_value out.run).end) }

@@ -4,7 +4,6 @@ ghost use Rattle.slack_base.specs.declared.bounds.TheConstants.{MOST_CORES};
 ghost use Rattle.slack_base.specs.Images.{Fits};
 ghost use Rattle.lockstep_model.specs.Views.{machine_of};
 ghost use Rattle.stat_report.specs.Dump.{lines_in};
-ghost use Rattle.image_run.specs.Modes.{is_built};
 ghost use Rattle.target_law.specs.Ticks.{drift_ticks_of, replay_ticks_of};
 ghost use Rattle.sim_words.specs.OrderValues.{order_value};
 ghost use Rattle.slacksim.specs.Outputs.{IsRun};
@@ -25,7 +24,6 @@ pub fn run_by<R: Threads + Sync, G: Gate + Sync>(
     image: &Image,
 ) -> Result<Ran, OutOfMemory>
     requires image { Fits order.now.config.base order.now.config.memory image.now }
-    requires mode { IsTrue (is_built order.now.mode) }
     ensures run { IfOk result (λ r. IsRun (record { may = G.may_hold gate.now; must = G.must_hold gate.now }) (order_value order.now) image.now r.notes (machine_of r.machine)) }
     ensures drift_ticks { IfOk result (λ r. r.drift_ticks ≡ drift_ticks_of order.now.config.cores r.notes) }
     ensures replay_ticks { IfOk result (λ r. r.replay_ticks ≡ replay_ticks_of order.now.config.cores r.notes) }

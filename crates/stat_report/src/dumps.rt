@@ -1,7 +1,7 @@
 //! Dumps of memory.
 ghost use Rattle.std.specs.Prelude.{◌≡◌, ◌++◌, ◌+◌, ◌*◌, ◌^◌, ◌<◌, ◌≤◌, IfOk, OnOk};
 ghost use Rattle.bus_model.specs.Channels.{count_of};
-ghost use Rattle.lockstep_model.specs.Views.{machine_of};
+ghost use Rattle.lockstep_model.specs.Views.{machine_of, values_of};
 ghost use Rattle.stat_report.specs.Dump.{dump_line, dump_of, dumped, is_zero, lines_in, memory_words, modified_words, words_at, words_of_chan, written_words};
 
 use bus_model::Channel;
@@ -15,7 +15,7 @@ use timed_core::TimedCore;
 /// The lines of memory that are not all 0, each with its address and its four words, in hexadecimal. Memory begins at
 /// `base`. Where a core has written a line that its cache still holds Modified, the words are those in its cache.
 pub fn dump_text(alloc: Global, machine: &Machine, base: u32) -> Result<ByteList, OutOfMemory>
-    requires { base + 16 * lines_in machine.now.chans ≤ 2 ^ 32 }
+    requires { base + 16 * lines_in (values_of machine.now.chans) ≤ 2 ^ 32 }
     ensures { IfOk result (λ text. text ≡ dump_of base (machine_of machine.now)) }
 {
     let mut text = Text::new(alloc);
@@ -27,8 +27,8 @@ pub fn dump_text(alloc: Global, machine: &Machine, base: u32) -> Result<ByteList
 
 /// How many lines of memory the channels have.
 fn lines_in(chans: &[Channel]) -> u32
-    requires { lines_in chans.now < 2 ^ 32 }
-    ensures { result ≡ lines_in chans.now }
+    requires { lines_in (values_of chans.now) < 2 ^ 32 }
+    ensures { result ≡ lines_in (values_of chans.now) }
 {
     chans.iter().map(|chan| chan.lines()).sum()
 }
@@ -46,7 +46,7 @@ fn words_at(machine: &Machine, line: u32) -> Option<Words>
 
 /// The words of a line in memory, as a bus has them that has the line.
 fn memory_words(chans: &[Channel], line: u32) -> Option<Words>
-    ensures { result ≡ memory_words line chans.now }
+    ensures { result ≡ memory_words line (values_of chans.now) }
 {
     for chan in chans {
         if let Some(words) = words_of_chan(chan, line) {
@@ -58,14 +58,14 @@ fn memory_words(chans: &[Channel], line: u32) -> Option<Words>
 
 /// The words of a line in memory, where the channel has it.
 fn words_of_chan(chan: &Channel, line: u32) -> Option<Words>
-    ensures { result ≡ words_of_chan line chan.now }
+    ensures { result ≡ words_of_chan line chan.now.value }
 {
     chan.find_entry(line).map(|entry| entry.words)
 }
 
 /// The words of a line in the cache of the first core that holds it Modified.
 fn written_words(cores: &[TimedCore], line: u32) -> Option<Words>
-    ensures { result ≡ written_words line cores.now }
+    ensures { result ≡ written_words line (values_of cores.now) }
 {
     for core in cores {
         if let Some(words) = modified_words(core.held(line)) {

@@ -4,7 +4,7 @@ ghost use Rattle.serde_json.specs.Data.{put as with_member};
 ghost use Rattle.serde_json.specs.View.{members_view, view};
 ghost use Rattle.plain_text.specs.Pieces.{hex_digit};
 ghost use Rattle.stat_report.specs.Json.{bus_data, buses_data, core_object, count, cores_data, end_name, end_value, hex_byte, hex_bytes, json_of, json_text};
-ghost use Rattle.lockstep_model.specs.Views.{machine_of};
+ghost use Rattle.lockstep_model.specs.Views.{machine_of, values_of};
 ghost use Rattle.stat_report.specs.Report.{console_of};
 
 use crate::lines::{end_cycle, trap_name, trap_value};
@@ -50,7 +50,7 @@ fn machine_value(alloc: Global, machine: &Machine) -> Result<Value, OutOfMemory>
 
 #[tactic(auto, unfolding(crate::specs::Json::cores_data))]
 fn core_values(alloc: Global, clock: u64, cores: &[TimedCore]) -> Result<Vec<Value>, OutOfMemory>
-    ensures { IfOk result (λ values. map view values.items ≡ cores_data clock cores.now) }
+    ensures { IfOk result (λ values. map view values.items ≡ cores_data clock (values_of cores.now)) }
 {
     let mut values = Vec::new(alloc);
     for core in cores {
@@ -119,7 +119,7 @@ fn end_value(ended: CoreEnd) -> u32
 
 #[tactic(auto, unfolding(crate::specs::Json::buses_data))]
 fn bus_values(alloc: Global, chans: &[Channel]) -> Result<Vec<Value>, OutOfMemory>
-    ensures { IfOk result (λ values. map view values.items ≡ buses_data chans.now) }
+    ensures { IfOk result (λ values. map view values.items ≡ buses_data (values_of chans.now)) }
 {
     let mut values = Vec::new(alloc);
     for chan in chans {
@@ -132,7 +132,7 @@ fn bus_values(alloc: Global, chans: &[Channel]) -> Result<Vec<Value>, OutOfMemor
 
 #[tactic(auto, unfolding(crate::specs::Json::bus_data))]
 fn bus_value(alloc: Global, bus: &Channel) -> Result<Value, OutOfMemory>
-    ensures { IfOk result (λ value. view value ≡ bus_data bus.now) }
+    ensures { IfOk result (λ value. view value ≡ bus_data bus.now.value) }
 {
     let value = json!(in alloc; {
         "asks": bus.asks(),
@@ -144,7 +144,7 @@ fn bus_value(alloc: Global, bus: &Channel) -> Result<Value, OutOfMemory>
 
 /// The bytes of the console in hexadecimal.
 fn console_digits(alloc: Global, chans: &[Channel]) -> Result<String, OutOfMemory>
-    ensures { IfOk result (λ digits. string_bytes digits ≡ hex_bytes (console_of chans.now)) }
+    ensures { IfOk result (λ digits. string_bytes digits ≡ hex_bytes (console_of (values_of chans.now))) }
 {
     let bytes = console_bytes(alloc, chans)?;
     hex_bytes(alloc, bytes.as_slice())

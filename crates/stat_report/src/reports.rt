@@ -1,7 +1,7 @@
 //! The report of a run.
 ghost use Rattle.std.specs.Prelude.{◌≡◌, ◌≤◌, ◌++◌, OnOk, IfOk};
 ghost use Rattle.slack_base.specs.declared.bounds.TheConstants.{TOP};
-ghost use Rattle.lockstep_model.specs.Views.{machine_of};
+ghost use Rattle.lockstep_model.specs.Views.{machine_of, values_of};
 ghost use Rattle.stat_report.specs.Report.{all_cores_ended, end_of, last_end, cycles_of, cores_text, bus_line, buses_text, console_of, console_text, report_of};
 
 use crate::lines::push_core;
@@ -34,7 +34,7 @@ pub fn report_text(alloc: Global, machine: &Machine) -> Result<ByteList, OutOfMe
 /// The bytes of the console, the one channel that has some.
 #[tactic(auto, unfolding(crate::specs::Report::console_of))]
 pub(crate) fn console_bytes(alloc: Global, chans: &[Channel]) -> Result<ByteList, OutOfMemory>
-    ensures { IfOk result (λ bytes. bytes ≡ console_of chans.now) }
+    ensures { IfOk result (λ bytes. bytes ≡ console_of (values_of chans.now)) }
 {
     let mut bytes = Text::new(alloc);
     for chan in chans {
@@ -46,7 +46,7 @@ pub(crate) fn console_bytes(alloc: Global, chans: &[Channel]) -> Result<ByteList
 /// The cycles that a run took.
 #[tactic(auto, unfolding(crate::specs::Report::cycles_of))]
 pub(crate) fn cycles(clock: u64, cores: &[TimedCore]) -> u64
-    ensures { result ≡ cycles_of clock cores.now }
+    ensures { result ≡ cycles_of clock (values_of cores.now) }
 {
     if all_cores_ended(cores) {
         last_end(cores) + 1
@@ -57,13 +57,13 @@ pub(crate) fn cycles(clock: u64, cores: &[TimedCore]) -> u64
 
 /// Whether all cores have ended.
 fn all_cores_ended(cores: &[TimedCore]) -> bool
-    ensures { result ≡ all_cores_ended cores.now }
+    ensures { result ≡ all_cores_ended (values_of cores.now) }
 {
     cores.iter().all(|core| core.has_ended())
 }
 
 fn last_end(cores: &[TimedCore]) -> u64
-    ensures value { result ≡ last_end cores.now }
+    ensures value { result ≡ last_end (values_of cores.now) }
     ensures bound { result ≤ TOP }
 {
     let mut last = 0;
@@ -85,7 +85,7 @@ fn end_of(ended: CoreEnd) -> u64
 
 #[tactic(auto, unfolding(crate::specs::Report::cores_text))]
 fn push_cores(text: &mut Text, clock: u64, cores: &[TimedCore]) -> Result<(), OutOfMemory>
-    ensures { OnOk result (text.new ≡ text.old ++ cores_text clock cores.now) }
+    ensures { OnOk result (text.new ≡ text.old ++ cores_text clock (values_of cores.now)) }
 {
     for core in cores {
         push_core(text, clock, core.number(), core.end(), &core.counts())?;
@@ -96,7 +96,7 @@ fn push_cores(text: &mut Text, clock: u64, cores: &[TimedCore]) -> Result<(), Ou
 /// Appends the line of a bus, and nothing for the console.
 #[tactic(auto, unfolding(crate::specs::Report::bus_line))]
 fn push_bus(text: &mut Text, chan: &Channel) -> Result<(), OutOfMemory>
-    ensures { OnOk result (text.new ≡ text.old ++ bus_line chan.now) }
+    ensures { OnOk result (text.new ≡ text.old ++ bus_line chan.now.value) }
 {
     if let Some(number) = chan.number() {
         text.push_field("bus ", u64::from(number))?;
@@ -110,7 +110,7 @@ fn push_bus(text: &mut Text, chan: &Channel) -> Result<(), OutOfMemory>
 
 #[tactic(auto, unfolding(crate::specs::Report::buses_text))]
 fn push_buses(text: &mut Text, chans: &[Channel]) -> Result<(), OutOfMemory>
-    ensures { OnOk result (text.new ≡ text.old ++ buses_text chans.now) }
+    ensures { OnOk result (text.new ≡ text.old ++ buses_text (values_of chans.now)) }
 {
     for chan in chans {
         push_bus(text, chan)?;

@@ -1,5 +1,3 @@
-use Rattle.std.proofs.Common.{◌≡◌, [], sym, subst}
-use Rattle.target_law.specs.Runs.{Ends, IsExact}
 use Rattle.target_law.specs.Views.{state_of}
 use Rattle.target_law.proofs.Exact.{all_end_exactly}
 use Rattle.image_run.proofs.modes.run_cycle_by_cycle.Goals as goal

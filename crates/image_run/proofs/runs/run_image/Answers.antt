@@ -1,14 +1,12 @@
-use Rattle.std.proofs.Common.{rules, ◌≡◌, ◌∙◌, ◌*◌, ◌<◌, ◌≤◌, IsTrue, refl, sym, ap, subst, sum_by, arith}
+use Rattle.std.proofs.Common.{◌≡◌, ◌∙◌, ◌≤◌, refl, ap, sum_by, arith}
 use Rattle.slack_base.specs.Numbers.{numbers_of}
-use Rattle.target_law.specs.Proper.{IsProper}
 use Rattle.target_law.specs.Runs.{Ends}
-use Rattle.target_law.specs.Views.{state_of}
 use Rattle.io_edge.specs.Holds.{Holds}
-use Rattle.lockstep_model.specs.Rules.{rules_of, owns_of, stored_values}
+use Rattle.lockstep_model.specs.Rules.{rules_of}
 use Rattle.lockstep_model.specs.Start.{start_of}
 use Rattle.lockstep_model.specs.Views.{machine_of}
-use Rattle.lockstep_model.proofs.Views.{machine_is}
-use Rattle.image_run.specs.Ends.{IsLockstepAt, rules_for}
+use Rattle.spec_run.specs.LockstepEnds.{IsLockstepAt}
+use Rattle.image_run.specs.Ends.{rules_for}
 use Rattle.image_run.specs.Modes.{limit_in, step_in}
 use Rattle.target_law.specs.Ticks.{cycles_of, replayed_of}
 use Rattle.target_law.proofs.Counting.{replayed_within, product_within}
@@ -39,21 +37,20 @@ returns-clause-end g c =
     let image = c.args.image.now in
     let t = c.in_ok-target.target in
     let made = c.in_ok-target.ensures in
-    let before = c.in_ok-machine.machine in
-    let after = c.in_ok-end.field-0.end in
+    let after = machine_of c.in_ok-end.field-0.end in
     let notes = c.in_ok-end.field-0.notes in
     let same_rules : rules_of (numbers_of t.config) t.code ≡ rules_for config image =
     ap (λ k. rules_of (numbers_of k) t.code) made.config ∙ ap (rules_of config) made.code in
-    let same_state : state_of stored_values before ≡ start_of config image =
-    machine_is before ∙ c.in_ok-machine.ensures.state ∙ ap (λ k. start_of (numbers_of k) image) made.config in
+    let same_state : machine_of c.in_ok-machine.machine ≡ start_of config image =
+    c.in_ok-machine.ensures.state ∙ ap (λ k. start_of (numbers_of k) image) made.config in
     let ran = c.in_ok-end.ensures in
     record {
-      ends = moved (λ R s e. Ends R config.interval (limit_in mode config) (step_in R holds mode config steps) s notes e)
-          _ _ _ _ _ _ same_rules same_state (machine_is after) ran.ends;
+      ends = moved (λ R s. Ends R config.interval (limit_in mode config) (step_in R holds mode config steps) s notes after) _ _ _ _ same_rules same_state ran.ends;
       exact = λ is.
-          let at : IsLockstepAt (rules_for config image) config.interval config.limit (start_of config image) (machine_of after) =
-          moved (λ R s e. IsLockstepAt R config.interval config.limit s e) _ _ _ _ _ _ same_rules same_state (machine_is after) (ran.exact is) in
-          record { state = lockstep_from_zero (rules_for config image) (start_of config image) (machine_of after) refl at.state; stops = at.stops };
+          let at : IsLockstepAt (rules_for config image) config.interval config.limit (start_of config image) after =
+          moved (λ R s. IsLockstepAt R config.interval config.limit s after) _ _ _ _ same_rules same_state (ran.exact is) in
+          record { state = lockstep_from_zero (rules_for config image) (start_of config image) after refl at.state; stops = at.stops };
       silent = ran.silent;
+      counted = ran.counted;
       quiet = ran.quiet;
     }

@@ -1,5 +1,5 @@
 use Rattle.std.proofs.Common.{◌≡◌, ◌∙◌, ◌+◌, ◌*◌, ◌++◌, ◌<◌, subst, sym, ap, append_assoc}
-use Rattle.lockstep_model.specs.Views.{machine_of}
+use Rattle.lockstep_model.specs.Views.{machine_of, values_of}
 use Rattle.stat_report.specs.Dump.{dump_at, dumped, lines_in, words_at}
 use Rattle.stat_report.proofs.Places.{from}
 use Rattle.stat_report.proofs.Dumping.{dump_start, dump_more}
@@ -17,7 +17,7 @@ loop-line-preserved c =
     let base = c.args.base in
     let line = c.loop-line.line in
     let rest = from (dump_at base m) (lines_in m.chans) (line + 1) in
-    let low : line < lines_in m.chans = subst (λ n. line < n) (c.lines_in-line-end.ensures ∙ ap lines_in c.as_slice.ensures) c.loop-line-test.true in
+    let low : line < lines_in m.chans = subst (λ n. line < n) (c.lines_in-line-end.ensures ∙ ap (λ chans. lines_in (values_of chans)) c.as_slice.ensures) c.loop-line-test.true in
     let pushed : c.push_words.new.text ≡ c.loop-line.text ++ dump_at base m line =
     c.in_ok-push_words.ensures ∙ ap (λ w. c.loop-line.text ++ dumped (base + 16 * line) w) c.words_at.ensures in
     ap (λ xs. xs ++ rest) pushed

@@ -6,15 +6,15 @@ use Rattle.stat_report.proofs.dumps.memory_words.Goals as goal
 pub returns-in-Some : goal.returns-in-Some
 unfolding memory_words
 returns-in-Some c =
-    let found : words_of_chan c.args.line (get_or c.args.chans.now c.loop-chan.chan-index c.chan-item.result) ≡ Some c.in-Some.words =
-    ap (words_of_chan c.args.line) (sym c.chan-item.is) ∙ sym c.words_of_chan.ensures ∙ c.in-Some.is in
+    let found : words_of_chan c.args.line (get_or c.args.chans.now c.loop-chan.chan-index c.chan-item.result).value ≡ Some c.in-Some.words =
+    ap (λ chan. words_of_chan c.args.line chan.value) (sym c.chan-item.is) ∙ sym c.words_of_chan.ensures ∙ c.in-Some.is in
     sym (sym c.loop-chan.invariant ∙ given_here (words_of_chan c.args.line) c.args.chans.now c.loop-chan.chan-index c.chan-item.result c.in-Some.words c.loop-chan-test.true found)
 
 pub loop-chan-preserved : goal.loop-chan-preserved
 unfolding memory_words
 loop-chan-preserved c =
-    let none : words_of_chan c.args.line (get_or c.args.chans.now c.loop-chan.chan-index c.chan-item.result) ≡ None =
-    ap (words_of_chan c.args.line) (sym c.chan-item.is) ∙ sym c.words_of_chan.ensures ∙ c.in_default.is in
+    let none : words_of_chan c.args.line (get_or c.args.chans.now c.loop-chan.chan-index c.chan-item.result).value ≡ None =
+    ap (λ chan. words_of_chan c.args.line chan.value) (sym c.chan-item.is) ∙ sym c.words_of_chan.ensures ∙ c.in_default.is in
     given_later (words_of_chan c.args.line) c.args.chans.now c.loop-chan.chan-index c.chan-item.result c.loop-chan-test.true none ∙ c.loop-chan.invariant
 
 pub returns : goal.returns
