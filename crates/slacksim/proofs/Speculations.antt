@@ -79,6 +79,6 @@ pub delivers : (holds : Holds) (order : OrderValue) (answer : Answer) (run : Run
     → Wrote holds order answer run left left_after written written_after → IsSpeculation order → Delivers holds order answer run left left_after written written_after
 delivers holds order answer run left left_after written written_after wrote is =
     elim is.runs as (λ _. Delivers holds order answer run left left_after written written_after) [
-      inl e ↦ of_run holds order is.mode answer run left left_after written written_after wrote e
+      | inl e ↦ of_run holds order is.mode answer run left left_after written written_after wrote e
       | inr e ↦ of_gen holds order is.mode answer run left left_after written written_after wrote e
     ]

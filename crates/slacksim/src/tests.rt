@@ -20,6 +20,7 @@ mod faults;
 mod pieces;
 mod programs;
 mod sharing;
+mod speculations;
 mod threads;
 
 /// What a call answered, and what it wrote.

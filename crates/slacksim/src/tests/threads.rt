@@ -7,9 +7,11 @@ use super::{WHOLE, call, call_under};
 use crossbeam_utils::CachePadded;
 use io_edge::{Gate, Stop, StopGate, StopList};
 use std::alloc::Global;
+use std::process::Abort;
 use std::sync::atomic::{AtomicBool, Ordering};
 use std::test::Fail;
 use std::thread;
+use std::thread::Threads;
 
 const BOUNDED: [&str; 7] = ["run", "--cores", "2", "--mode", "bounded", "--notes", "on"];
 
@@ -26,7 +28,7 @@ const ALONE: &[u8] =
     b"cores 1\ncycles 3\ncore 0 exit 0 at 2 retired 3 accesses 0 misses 0 retries 0 waits 0 snoops 0 writebacks 0\nbus 0 asks 0 retries 0 free 0\nconsole 0\n\ninterval 0 bounded 1000 bus 0 map 0 line 0 reply 0\nticks drift 1000 replay 0\n";
 
 /// A gate that holds so many cores at their first clocks.
-fn stop_first(alloc: Global, cores: u32) -> Result<StopGate, Fail> {
+pub fn stop_first(alloc: Global, cores: u32) -> Result<StopGate, Fail> {
     let mut stops = StopList::new(alloc);
     for core in 0..cores {
         stops.push(Stop { core, clock: 0 })?;
@@ -91,20 +93,24 @@ impl Gate for MeetGate {
     }
 }
 
-/// What runs on one thread alone never meets.
-#[test]
-fn two_cores_meet(rt: HostRuntime) -> Result<(), Fail> {
-    let image = call(&rt, &["asm"], STORES)?;
+/// Whether two cores met in a run in this mode: each saw the other's flag.
+pub fn meets<R: Threads + Sync + Abort + AllocGlobal>(rt: &R, mode: &str) -> Result<bool, Fail> {
+    let image = call(rt, &["asm"], STORES)?;
     let gate = MeetGate {
         first: CachePadded::new(AtomicBool::new(false)),
         second: CachePadded::new(AtomicBool::new(false)),
         first_saw: AtomicBool::new(false),
         second_saw: AtomicBool::new(false),
     };
-    let words = ["run", "--cores", "2", "--mode", "bounded", "--slack", "64"];
-    let outcome = call_under(&rt, words.as_slice(), image.text.as_slice(), WHOLE, &gate)?;
+    let words = ["run", "--cores", "2", "--mode", mode, "--slack", "64"];
+    let outcome = call_under(rt, words.as_slice(), image.text.as_slice(), WHOLE, &gate)?;
     assert_eq!(rt; outcome.finish.status, 0);
-    assert!(rt; gate.first_saw.load(Ordering::SeqCst));
-    assert!(rt; gate.second_saw.load(Ordering::SeqCst));
+    Ok(gate.first_saw.load(Ordering::SeqCst) && gate.second_saw.load(Ordering::SeqCst))
+}
+
+/// What runs on one thread alone never meets.
+#[test]
+fn two_cores_meet(rt: HostRuntime) -> Result<(), Fail> {
+    assert!(rt; meets(&rt, "bounded")?);
     Ok(())
 }

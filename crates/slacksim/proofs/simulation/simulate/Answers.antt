@@ -43,7 +43,7 @@ returns-in-Ok-output_of-clause-headline g c = λ has.
     let told = c.in-Ok.ensures.order in
     let holds : Holds = record { may = g.G.Gate.may_hold c.args.gate.now; must = g.G.Gate.must_hold c.args.gate.now } in
     let wrote : Wrote holds (order_value c.in-Ok.order) c.write_output.result.answer (run_in c.write_output.result)
-        (g.S.Source.left c.args.source.now) (g.S.Source.left c.read_input.new.source) (g.W.Sink.written c.args.sink.now) (g.W.Sink.written c.write_output.new.sink) = search rules in
+    (g.S.Source.left c.args.source.now) (g.S.Source.left c.read_input.new.source) (g.W.Sink.written c.args.sink.now) (g.W.Sink.written c.write_output.new.sink) = search rules in
     subst (λ r. IsOkAnd r (λ order. IsSpeculation order → Delivers holds order c.write_output.result.answer (run_in c.write_output.result)
-        (g.S.Source.left c.args.source.now) (g.S.Source.left c.read_input.new.source) (g.W.Sink.written c.args.sink.now) (g.W.Sink.written c.write_output.new.sink))) (sym told)
+    (g.S.Source.left c.args.source.now) (g.S.Source.left c.read_input.new.source) (g.W.Sink.written c.args.sink.now) (g.W.Sink.written c.write_output.new.sink))) (sym told)
     (λ is. delivers holds (order_value c.in-Ok.order) _ _ _ _ _ _ wrote is)
