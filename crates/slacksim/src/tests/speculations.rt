@@ -35,13 +35,13 @@ const IN_ORDER: &[u8] =
 const ALONE: &[u8] =
     b"cores 1\ncycles 3\ncore 0 exit 0 at 2 retired 3 accesses 0 misses 0 retries 0 waits 0 snoops 0 writebacks 0\nbus 0 asks 0 retries 0 free 0\nconsole 0\n\ninterval 0 kept 1000\nticks drift 1000 replay 0\n";
 
-/// Under each gate twenty times, and the same text each time.
+/// Under each gate three times, and the same text each time.
 #[test]
 fn cores_that_are_held(rt: HostRuntime) -> Result<(), Fail> {
     let image = call(&rt, &["asm"], STORES)?;
     for (held, text) in [(1, ROLLED), (2, KEPT)] {
         let gate = stop_first(rt.alloc(), held)?;
-        for _ in 0..20 {
+        for _ in 0..3 {
             let outcome = call_under(&rt, NOTED.as_slice(), image.text.as_slice(), WHOLE, &gate)?;
             assert_eq!(rt; outcome.text.as_slice(), text);
         }
