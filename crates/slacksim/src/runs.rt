@@ -30,7 +30,7 @@ pub fn run_by<R: Threads + Sync, G: Gate + Sync>(
     ensures drift_ticks { IfOk result (λ r. r.drift_ticks ≡ drift_ticks_of order.now.config.cores r.notes) }
     ensures replay_ticks { IfOk result (λ r. r.replay_ticks ≡ replay_ticks_of order.now.config.cores r.notes) }
     ensures cores { IfOk result (λ r. length r.machine.cores ≤ MOST_CORES) }
-    ensures lines { IfOk result (λ r. order.now.config.base + 16 * lines_in r.machine.chans ≤ 2 ^ 32) }
+    ensures lines { IfOk result (λ r. order.now.config.base + 16 * lines_in (machine_of r.machine).chans ≤ 2 ^ 32) }
 {
     let ran = run_image(
         rt,

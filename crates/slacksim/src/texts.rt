@@ -18,7 +18,7 @@ use std::alloc::Global;
 /// The text of a run.
 #[tactic(auto, unfolding(crate::specs::Texts::run_text))]
 pub fn text_of_run(alloc: Global, order: &Order, ran: &Ran) -> Result<ByteList, OutOfMemory>
-    requires { order.now.config.base + 16 * lines_in ran.now.machine.chans ≤ 2 ^ 32 }
+    requires { order.now.config.base + 16 * lines_in (machine_of ran.now.machine).chans ≤ 2 ^ 32 }
     ensures { IfOk result (λ text. text ≡ run_text (order_value order.now) (machine_of ran.now.machine) (run_value (Some ran.now))) }
 {
     let mut text = Text::new(alloc);
@@ -28,7 +28,7 @@ pub fn text_of_run(alloc: Global, order: &Order, ran: &Ran) -> Result<ByteList, 
 
 /// The text of a generated run.
 pub fn text_of_gen(alloc: Global, order: &Order, ran: &Ran) -> Result<ByteList, OutOfMemory>
-    requires { order.now.config.base + 16 * lines_in ran.now.machine.chans ≤ 2 ^ 32 }
+    requires { order.now.config.base + 16 * lines_in (machine_of ran.now.machine).chans ≤ 2 ^ 32 }
     ensures { IfOk result (λ text. text ≡ gen_line order.now.seed ++ run_text (order_value order.now) (machine_of ran.now.machine) (run_value (Some ran.now))) }
 {
     let mut text = Text::new(alloc);
@@ -49,7 +49,7 @@ fn push_gen_line(text: &mut Text, seed: u32) -> Result<(), OutOfMemory>
 /// Appends the text of a run.
 #[tactic(auto, unfolding(crate::specs::Texts::run_text))]
 fn push_run(text: &mut Text, alloc: Global, order: &Order, ran: &Ran) -> Result<(), OutOfMemory>
-    requires { order.now.config.base + 16 * lines_in ran.now.machine.chans ≤ 2 ^ 32 }
+    requires { order.now.config.base + 16 * lines_in (machine_of ran.now.machine).chans ≤ 2 ^ 32 }
     ensures { OnOk result (text.new ≡ text.old ++ run_text (order_value order.now) (machine_of ran.now.machine) (run_value (Some ran.now))) }
 {
     let report = report_in(alloc, order, &ran.machine)?;
@@ -70,7 +70,7 @@ fn push_notes(text: &mut Text, alloc: Global, notes: bool, ran: &Ran) -> Result<
 
 /// The report in the format of the order.
 fn report_in(alloc: Global, order: &Order, machine: &Machine) -> Result<ByteList, OutOfMemory>
-    requires { order.now.config.base + 16 * lines_in machine.now.chans ≤ 2 ^ 32 }
+    requires { order.now.config.base + 16 * lines_in (machine_of machine.now).chans ≤ 2 ^ 32 }
     ensures { IfOk result (λ text. text ≡ report_in order.now.format (numbers_of order.now.config) (machine_of machine.now)) }
 {
     match order.format {
