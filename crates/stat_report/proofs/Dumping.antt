@@ -1,11 +1,10 @@
 -- The words of a line, and the lines that are left of a dump.
-use Rattle.std.proofs.Common.{◌≡◌, ◌∙◌, ℕ, ◌+◌, ◌<◌, ◌≤◌, List, [], ◌∷◌, ◌++◌, Option, Some, None, length, drop, get_or, refl, sym, ap, arith}
-use Rattle.std.specs.List.{cons_option, filter_map, flat_map, range_with_len, slice_get, sum_by}
+use Rattle.std.proofs.Common.{◌≡◌, ◌∙◌, ℕ, ◌+◌, ◌<◌, ◌≤◌, List, ◌++◌, Option, Some, None, length, drop, get_or, sym, ap, arith}
+use Rattle.std.specs.List.{cons_option, filter_map, flat_map, range_with_len, slice_get}
 use Rattle.std.proofs.lemmas.List.{at_drop_more, at_drop_all}
-use Rattle.std.proofs.lemmas.List.Sums.{sum_by-cons}
 use Rattle.slack_base.specs.declared.messages.Words.{Words}
 use Rattle.slack_base.specs.Marks.{Marked}
-use Rattle.bus_model.specs.Channels.{ChannelValue, count_of}
+use Rattle.bus_model.specs.Channels.{ChannelValue}
 use Rattle.timed_core.specs.Cores.{HartValue}
 use Rattle.target_law.specs.Cycles.{StateValue}
 use Rattle.lockstep_model.specs.Views.{values_of}
@@ -29,13 +28,6 @@ module _ {X : Type 0} (f : X → Option Words) (xs : List (Marked X)) (i : ℕ) 
 
   pub given_nowhere : length xs ≤ i → first_given f (drop i xs) ≡ None
   given_nowhere past = at_drop_all (first_given f) xs i past
-
--- the lines of the channels as they are now
-pub lines_now : (chans : List (Marked ChannelValue)) → lines_in (values_of chans) ≡ sum_by (λ chan. count_of chan.value) chans
-lines_now [] = refl
-lines_now (chan ∷ chans) =
-    sum_by-cons count_of chan.value (values_of chans) ∙ ap (λ n. count_of chan.value + n) (lines_now chans)
-    ∙ sym (sum_by-cons (λ (c : Marked ChannelValue). count_of c.value) chan chans)
 
 module _ (base : ℕ) (m : StateValue HartValue ChannelValue) where
   pub dump_start : dump_of base m ≡ from (dump_at base m) (lines_in m.chans) 0
