@@ -140,6 +140,19 @@ def quantum_differs(rng, config, base, code, image):
     return True
 
 
+def speculative_differs(rng, config, base, code, image):
+    """Whatever the drifts were, the report and the memory are those of a run cycle by cycle."""
+    interval = rng.choice([1, 10, 100, 1000])
+    config = {**config, "interval": interval, "limit": 300 if interval == 1 else 1500}
+    machine = Machine(config, base, [(base, code)])
+    machine.run()
+    words = ["--mode", "speculative", "--slack", str(rng.choice([1, 8, 64, 1000]))]
+    if output(config, image, *words) == machine.report() and output(config, image, *words, "--format", "dump") == machine.dump():
+        return False
+    print(" ".join(words))
+    return True
+
+
 def differs(rng):
     config = random_config(rng)
     base = config["base"]
@@ -149,6 +162,7 @@ def differs(rng):
         lockstep_differs(config, base, code, image)
         or script_differs(rng, config, base, code, image)
         or quantum_differs(rng, config, base, code, image)
+        or speculative_differs(rng, config, base, code, image)
     )
     if found:
         print(f"differs: {config} {code.hex()}")
