@@ -1,5 +1,6 @@
 pub mod AccessSteps
 pub mod Due
+pub mod Fetching
 pub mod OwnCaches
 pub mod InstructionSteps
 pub mod Lawful
