@@ -3,6 +3,7 @@ pub mod Due
 pub mod Fetching
 pub mod OwnCaches
 pub mod InstructionSteps
+pub mod Keeping
 pub mod Lawful
 pub mod PostSteps
 pub mod Steps

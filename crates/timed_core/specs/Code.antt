@@ -7,6 +7,9 @@ use Rattle.slack_base.specs.declared.instructions.Instr.{Instr}
 use Rattle.slack_base.specs.declared.configs.RawConfig.{RawConfig}
 use Rattle.rv_decode.specs.Decoding.{instr_of}
 use Rattle.rv_decode.specs.Ranges.{IsInRange}
+use Rattle.timed_core.specs.declared.kept.Kept.{Kept}
+use Rattle.timed_core.specs.declared.kept.Kept.TheVariants.{Nothing}
+use Rattle.timed_core.specs.Kept.{instr_in}
 
 -- the bytes of memory as they were loaded, from an address on
 pub record CodeValue : Type 0 where
@@ -27,10 +30,10 @@ abbrev pub instr_at : CodeValue → ℕ → Option Instr
 instr_at code address = option_and_then instr_of (word_at code address)
 
 -- what is kept is the instructions of the first words of the bytes, in their order, each with its fields in their ranges
-pub record AreDecoded (bytes : List ℕ) (kept : List (Option Instr)) : Type 0 where
+pub record AreDecoded (bytes : List ℕ) (kept : List Kept) : Type 0 where
   pub within : 4 * length kept ≤ length bytes
-  pub each : (n : ℕ) → n < length kept → slice_index_or kept n None ≡ instr_of (little_number 4 (drop (4 * n) bytes))
-  pub ranges : (n : ℕ) → n < length kept → IfSome (slice_index_or kept n None) IsInRange
+  pub each : (n : ℕ) → n < length kept → instr_in (slice_index_or kept n Nothing) ≡ instr_of (little_number 4 (drop (4 * n) bytes))
+  pub ranges : (n : ℕ) → n < length kept → IfSome (instr_in (slice_index_or kept n Nothing)) IsInRange
 
 -- the instruction memory of an image: so many bytes from base on
 abbrev pub code_of : Image → RawConfig → CodeValue

@@ -3,6 +3,7 @@ ghost use Rattle.std.specs.Prelude.{◌≡◌};
 
 mod decoded;
 
+use crate::kept::Kept;
 use byteorder::{ByteOrder, LittleEndian};
 use decoded::{decoded, words_reached};
 use first_memory::loaded_bytes;
@@ -16,7 +17,7 @@ use std::marker::Model;
 pub struct Code {
     base: u32,
     bytes: Vec<u8>,
-    kept: Vec<Option<Instr>>,
+    kept: Vec<Kept>,
 }
 
 impl Model for Code {
@@ -90,7 +91,7 @@ impl Code {
         if address >= self.base && address % 4 == 0 {
             let number = ((address - self.base) / 4) as usize;
             if number < self.kept.len() {
-                return self.kept[number];
+                return self.kept[number].instr();
             }
         }
         decode(self.word(address)?)

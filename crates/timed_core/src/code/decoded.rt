@@ -3,20 +3,22 @@ ghost use Rattle.std.specs.Prelude.{◌≡◌, ◌+◌, ◌*◌, ◌%◌, ◌≤
 ghost use Rattle.slack_base.specs.Images.{Fits};
 ghost use Rattle.timed_core.specs.Code.{AreDecoded};
 
+use crate::kept::Kept;
 use byteorder::{ByteOrder, LittleEndian};
 use rv_decode::decode;
-use slack_base::{Image, Instr, OutOfMemory};
+use slack_base::{Image, OutOfMemory};
 use std::alloc::Global;
 
 /// The instructions of so many words from the first on.
-pub fn decoded(alloc: Global, bytes: &[u8], count: usize) -> Result<Vec<Option<Instr>>, OutOfMemory>
+pub fn decoded(alloc: Global, bytes: &[u8], count: usize) -> Result<Vec<Kept>, OutOfMemory>
     requires { 4 * count ≤ length bytes.now }
     ensures instrs { IfOk result (λ kept. AreDecoded bytes.now kept.items) }
     ensures count { IfOk result (λ kept. vec_len kept ≡ count) }
 {
     let mut kept = Vec::with_capacity(alloc, count)?;
     for n in 0..count {
-        kept.push(decode(LittleEndian::read_u32(&bytes[4 * n..])))?;
+        let instr = decode(LittleEndian::read_u32(&bytes[4 * n..]));
+        kept.push(Kept::of(instr))?;
     }
     Ok(kept)
 }
