@@ -2,6 +2,7 @@ pub mod Accesses
 pub mod Code
 pub mod Cores
 pub mod Effects
+pub mod Kept
 pub mod Laws
 pub mod Posts
 pub mod Ticks

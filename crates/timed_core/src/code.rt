@@ -1,44 +1,55 @@
 //! The instruction memory: the image as it was loaded, which fetches read and nothing writes.
 ghost use Rattle.std.specs.Prelude.{◌≡◌};
 
+mod decoded;
+
+use crate::kept::Kept;
 use byteorder::{ByteOrder, LittleEndian};
+use decoded::{decoded, words_reached};
 use first_memory::loaded_bytes;
-use slack_base::{Config, Image, OutOfMemory};
+use rv_decode::decode;
+use slack_base::{Config, Image, Instr, OutOfMemory};
 use std::alloc::Global;
 use std::marker::Model;
 
-/// The bytes of memory as they were loaded.
+/// The bytes of memory as they were loaded, and beside them the instructions of the words that the image's bytes reach.
 #[derive(Drop)]
 pub struct Code {
     base: u32,
     bytes: Vec<u8>,
+    kept: Vec<Kept>,
 }
 
 impl Model for Code {
     ghost use Rattle.std.specs.Prelude.{◌≡◌, ◌+◌, ◌%◌, ◌^◌, ◌≤◌, vec_len};
-    ghost use Rattle.timed_core.specs.Code.{CodeValue};
+    ghost use Rattle.timed_core.specs.Code.{CodeValue, AreDecoded};
 
     ghost Value = { CodeValue };
 
     ghost view = { λ c. record { base = c.base; bytes = c.bytes.items } };
 
-    ghost invariant = { λ c. (c.base % 4 ≡ 0) × (vec_len c.bytes % 4 ≡ 0) × (c.base + vec_len c.bytes ≤ 2 ^ 32) };
+    ghost invariant = { λ c. (c.base % 4 ≡ 0) × (vec_len c.bytes % 4 ≡ 0) × (c.base + vec_len c.bytes ≤ 2 ^ 32) × AreDecoded c.bytes.items c.kept.items };
 }
 
 impl Code {
-    ghost use Rattle.std.specs.Prelude.{◌≡◌, IfOk};
+    ghost use Rattle.std.specs.Prelude.{◌≡◌, IfOk, IfSome};
     ghost use Rattle.slack_base.specs.Images.{Fits};
     ghost use Rattle.slack_base.specs.Numbers.{numbers_of};
-    ghost use Rattle.timed_core.specs.Code.{word_at, is_in_memory, code_of};
+    ghost use Rattle.timed_core.specs.Code.{word_at, instr_at, is_in_memory, code_of};
+    ghost use Rattle.rv_decode.specs.Ranges.{IsInRange};
 
     /// The instruction memory of an image that fits the configuration.
     pub fn of(alloc: Global, image: &Image, config: &Config) -> Result<Code, OutOfMemory>
         requires { Fits config.now.base config.now.memory image.now }
         ensures { IfOk result (λ code. code ≡ code_of image.now (numbers_of config.now)) }
     {
+        let bytes = loaded_bytes(alloc, image, config.base, config.memory)?;
+        let count = words_reached(image, config.base, config.memory);
+        let kept = decoded(alloc, bytes.as_slice(), count)?;
         Ok(Code {
             base: config.base,
-            bytes: loaded_bytes(alloc, image, config.base, config.memory)?,
+            bytes,
+            kept,
         })
     }
 
@@ -69,5 +80,20 @@ impl Code {
             return None;
         }
         Some(LittleEndian::read_u32(&self.bytes[offset..]))
+    }
+
+    /// The instruction at an address: none where there is no word, and where the word stands for none.
+    #[tactic(auto, unfolding(crate::specs::Code::word_at))]
+    pub fn instr(&self, address: u32) -> Option<Instr>
+        ensures value { result ≡ instr_at self.now address }
+        ensures ranges { IfSome result IsInRange }
+    {
+        if address >= self.base && address % 4 == 0 {
+            let number = ((address - self.base) / 4) as usize;
+            if number < self.kept.len() {
+                return self.kept[number].instr();
+            }
+        }
+        decode(self.word(address)?)
     }
 }

@@ -5,6 +5,7 @@ pub mod accesses;
 pub mod code;
 pub mod effects;
 mod harts;
+mod kept;
 pub mod laws;
 mod marks;
 pub mod timed_cores;

@@ -1,16 +1,15 @@
 //! What a hart does in a cycle after its posts are applied.
-ghost use Rattle.std.specs.Prelude.{◌≡◌, ◌≤◌};
+ghost use Rattle.std.specs.Prelude.{◌≡◌, ◌≤◌, None};
 ghost use Rattle.slack_base.specs.declared.bounds.TheConstants.{TOP};
-ghost use Rattle.rv_decode.specs.Decoding.{instr_of};
-ghost use Rattle.timed_core.specs.Code.{word_at};
-ghost use Rattle.timed_core.specs.Effects.{NamesRegister};
-ghost use Rattle.timed_core.specs.Ticks.{called, performed, decoded, fetched, stepped};
+ghost use Rattle.rv_decode.specs.Ranges.{IsInRange};
+ghost use Rattle.timed_core.specs.Code.{word_at, instr_at};
+ghost use Rattle.timed_core.specs.Effects.{NamesRegister, effect_of, cost_of};
+ghost use Rattle.timed_core.specs.Ticks.{called, performed, fetched, stepped};
 
 use crate::code::Code;
 use crate::effects::{Effect, cost};
 use crate::harts::Hart;
-use rv_decode::decode;
-use slack_base::{Ask, CoreEnd, Id, Trap, raised};
+use slack_base::{Ask, CoreEnd, Id, Instr, Trap, raised};
 
 impl Hart {
     /// Does nothing once the hart has ended, spends a cycle while it is busy or waits, and else executes an
@@ -35,33 +34,45 @@ impl Hart {
         self.fetch(code, id)
     }
 
-    /// Fetches the word at pc and executes it.
-    #[tactic(auto, unfolding(crate::specs::Ticks::fetched))]
+    /// Executes the instruction at pc, or ends the hart where none is.
+    #[tactic(auto, using(crate::proofs::Fetching::performed_of, crate::proofs::Fetching::refused_of))]
     fn fetch(&mut self, code: &Code, id: Id) -> Option<Ask>
         requires { id.cycle ≤ TOP }
         ensures after { self.new ≡ (fetched code.now (word_at code.now self.old.pc) id self.old).0 }
         ensures ask { result ≡ (fetched code.now (word_at code.now self.old.pc) id self.old).1 }
     {
-        let Some(bits) = code.word(self.pc) else {
-            self.trap(id.cycle, Trap::Fetch { pc: self.pc });
-            return None;
-        };
-        self.execute(code, bits, id)
+        match code.instr(self.pc) {
+            Some(instr) => self.execute(code, instr, id),
+            None => {
+                self.refuse(code, id);
+                None
+            }
+        }
     }
 
-    /// Executes the instruction that the word stands for.
-    #[tactic(auto, unfolding(crate::specs::Ticks::decoded))]
-    fn execute(&mut self, code: &Code, bits: u32, id: Id) -> Option<Ask>
-        requires { id.cycle ≤ TOP }
-        ensures after { self.new ≡ (decoded code.now (instr_of bits) bits id self.old).0 }
-        ensures ask { result ≡ (decoded code.now (instr_of bits) bits id self.old).1 }
+    /// Executes an instruction.
+    fn execute(&mut self, code: &Code, instr: Instr, id: Id) -> Option<Ask>
+        requires top { id.cycle ≤ TOP }
+        requires range { IsInRange instr }
+        ensures after { self.new ≡ (performed code.now (effect_of instr self.old.registers self.old.pc) (cost_of instr) id self.old).0 }
+        ensures ask { result ≡ (performed code.now (effect_of instr self.old.registers self.old.pc) (cost_of instr) id self.old).1 }
     {
-        let Some(instr) = decode(bits) else {
-            self.trap(id.cycle, Trap::Illegal { bits });
-            return None;
-        };
         let effect = Effect::of(instr, &self.registers, self.pc);
         self.perform(code, effect, cost(instr), id)
+    }
+
+    /// Ends the hart by the trap of an address at which there is no instruction.
+    #[tactic(auto, unfolding(crate::specs::Ticks::fetched, crate::specs::Ticks::decoded))]
+    fn refuse(&mut self, code: &Code, id: Id)
+        requires top { id.cycle ≤ TOP }
+        requires none { instr_at code.now self.old.pc ≡ None }
+        ensures { self.new ≡ (fetched code.now (word_at code.now self.old.pc) id self.old).0 }
+    {
+        let trap = match code.word(self.pc) {
+            Some(bits) => Trap::Illegal { bits },
+            None => Trap::Fetch { pc: self.pc },
+        };
+        self.trap(id.cycle, trap);
     }
 
     /// Completes an instruction of this effect and cost, waits for its line, or ends the hart by its trap.
