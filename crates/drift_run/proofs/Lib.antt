@@ -8,3 +8,4 @@ pub mod Watched
 pub mod Drifted
 pub mod Holding
 pub mod Running
+pub mod Sighted

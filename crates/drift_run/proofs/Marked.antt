@@ -17,7 +17,7 @@ use Rattle.violation_watch.proofs.Join.{complete}
 use Rattle.drive_script.specs.Scripts.{IsExactIfQuiet}
 
 module _ {Inner Chan : Type 0} (rules : Rules Inner Chan) (owns : Owns Inner Chan) {Core D : Type 0} (values : Values Core D Inner Chan) where
-  abbrev seen_as : (clock : ℕ) → List Core → List D → StateValue Inner Chan
+  abbrev pub seen_as : (clock : ℕ) → List Core → List D → StateValue Inner Chan
   seen_as clock cores chans = record { clock = clock; cores = map values.core cores; chans = map values.chan chans }
 
   abbrev pub in_sight : (clock : ℕ) → List Core → List D → StateValue (MarkedInner Inner) (Marked Chan)

@@ -1,10 +1,12 @@
 -- Lists whose items went each its way.
-use Rattle.std.proofs.Common.{◌≡◌, ◌∙◌, ℕ, zero, suc, ◌+◌, ◌<◌, List, [], ◌∷◌, ◌++◌, Some, map, length, slice_get, get_or, set, Result, Ok, Err, OnOk, refl, sym, ap, subst, arith}
+use Rattle.std.proofs.Common.{◌≡◌, ◌∙◌, ℕ, zero, suc, ◌+◌, ◌<◌, ◌≤◌, List, [], ◌∷◌, ◌++◌, Some, map, length, slice_get, get_or, set, Result, Ok, Err, OnOk, refl, sym, ap, subst, arith}
 use Rattle.std.proofs.lemmas.List.{length-map}
 use Rattle.std.proofs.lemmas.Option.{none-some, same_Some, slice_get_within}
 use Rattle.drive_script.proofs.Places.{Along}
 use Rattle.settle.proofs.Lists.{get_in, get_map}
-use Rattle.std.specs.List.{AllZip}
+use Rattle.std.proofs.lemmas.List.Elements.{All-get_or}
+use Rattle.std.specs.List.{All, AllZip}
+use Rattle.target_law.proofs.OneByOne.{Changed, not_yet}
 
 -- what follows where a call went well
 pub on_ok : {X E : Type 0} {A B : Type 0} (r : Result X E) → (A → B) → OnOk r A → OnOk r B
@@ -58,3 +60,15 @@ seen_in f xs i y at =
     let inside : i < length (map f xs) = slice_get_within (map f xs) i y at in
     let x = get_in xs i (subst (λ n. i < n) (length-map xs f) inside) in
     (x.0, x.1, same_Some (f x.0) y (sym (get_map f xs i x.0 x.1) ∙ at))
+
+-- items that were all changed in place
+pub all_changed : {A : Type 0} (R : A → A → Type 0) (n : ℕ) (xs ys : List A) → length xs ≤ n → Changed R n xs ys → AllZip R xs ys
+all_changed R n [] [] h so = tt
+all_changed R n [] (y ∷ ys) h so = absurd so
+all_changed R n (x ∷ xs) [] h so = absurd so
+all_changed R zero (x ∷ xs) (y ∷ ys) h so = absurd (omega arith)
+all_changed R (suc n) (x ∷ xs) (y ∷ ys) h so = (so.0, all_changed R n xs ys (omega arith) so.1)
+
+-- what is so of all items is so of the next that is changed
+pub next_of_all : {A : Type 0} (R : A → A → Type 0) (P : A → Type 0) (n : ℕ) (xs ys : List A) (item : A) → n < length xs → Changed R n xs ys → item ≡ get_or ys n item → All P xs → P item
+next_of_all R P n xs ys item inside so is all = subst P (sym (not_yet R n xs ys item inside so is)) (All-get_or P xs n item inside all)

@@ -1,5 +1,6 @@
 pub mod BoundedRuns
 pub mod Crews
+pub mod Finishes
 pub mod Holds
 pub mod Parts
 pub mod Rigs

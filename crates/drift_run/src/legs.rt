@@ -1,4 +1,4 @@
-//! The legs of a drift by threads, all at once.
+//! The legs of a drift: all at once, by threads, or one after another on one thread.
 ghost use Rattle.std.specs.Prelude.{OnOk, All};
 ghost use Rattle.std.specs.List.{AllZip};
 ghost use Rattle.std.specs.Thread.{IsSync, IsSend};
@@ -12,6 +12,28 @@ use manager::Manager;
 use slack_base::OutOfMemory;
 use std::thread::{Threads, join_mut};
 use target_law::Target;
+
+/// The leg of each core, in core order, and then the manager's.
+///
+/// Out of memory: the manager and the actors are left in the middle of a turn.
+pub(crate) fn legs_in_turn<C: Send + Drop, D: Send + Drop, T: Target<Core = C, Chan = D>, G: Gate>(
+    target: &T,
+    gate: &G,
+    end: u64,
+    patience: u32,
+    manager: &mut Manager<D>,
+    actors: &mut [CoreActor<C>],
+) -> Result<(), OutOfMemory>
+    requires manager { IsReadyManager (T.rules target.now) (T.owns target.now) T.values manager.old }
+    requires actors { All (IsReady (T.rules target.now) (T.owns target.now) T.values end) actors.old }
+    ensures manager { OnOk result (Led (T.rules target.now) (T.owns target.now) T.values manager.old manager.new) }
+    ensures actors { OnOk result (AllZip (Ran (T.rules target.now) (T.owns target.now) T.values (record { may = G.may_hold gate.now; must = G.must_hold gate.now }) end) actors.old actors.new) }
+{
+    for actor in actors.iter_mut() {
+        actor.leg(target, gate, end, patience)?;
+    }
+    manager.leg(target, end, patience)
+}
 
 /// The manager's leg, and beside it the leg of each core, each in a thread of its own.
 ///

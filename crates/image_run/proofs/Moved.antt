@@ -1,5 +1,5 @@
 -- What is so of a machine's rules and of the state that a run begins in is so of those that are equal to them.
-use Rattle.std.proofs.Common.{◌≡◌, ◌∙◌, ℕ, ◌-◌, List, ap, subst, arith}
+use Rattle.std.proofs.Common.{◌≡◌, ◌∙◌, ◌-◌, ap, subst, arith}
 use Rattle.target_law.specs.Cycles.{StateValue, lockstep}
 use Rattle.target_law.specs.Rules.{Rules}
 

@@ -29,10 +29,9 @@ use Rattle.timed_core.specs.Laws.{IsTick as IsCoreTick, IsLineBelow, AreAsksFrom
 use Rattle.timed_core.proofs.Lawful.{all_ticks}
 use Rattle.target_law.specs.Cycles.{tick_of}
 use Rattle.target_law.specs.Laws.{Laws, AreIds, IsTick, IsServing, IsPostOf, IsFreeAfter, IsNext, IsCommuting, IsClosing}
-use Rattle.target_law.specs.Numbered.{AllNumbered}
 use Rattle.target_law.specs.Proper.{IsProperAsk, IsPostTo, IsCoreOf, IsChanOf}
 use Rattle.target_law.specs.Served.{Perm, none, more, inserted, served_all}
-use Rattle.lockstep_model.specs.Rules.{rules_of, owns_of, is_line, number_in, IsOwnChannel}
+use Rattle.lockstep_model.specs.Rules.{rules_of, owns_of, is_line, number_in}
 
 -- the code and the configuration of one machine
 pub record IsMachine (config : RawConfig) (code : CodeValue) : Type 0 where

@@ -1,5 +1,5 @@
 -- Runs in short pieces: each interval goes as lockstep does, so the run is one cycle by cycle.
-use Rattle.std.proofs.Common.{◌≡◌, ◌∙◌, ℕ, ◌+◌, ◌≤◌, zero, suc, List, [], refl, sym, ap, subst, arith}
+use Rattle.std.proofs.Common.{◌≡◌, ◌∙◌, ℕ, ◌+◌, ◌≤◌, List, [], refl, sym, ap, subst, arith}
 use Rattle.std.specs.List.{All}
 use Rattle.std.proofs.lemmas.List.Elements.{All-nil, All-cons, All-append}
 use Rattle.slack_base.specs.declared.bounds.TheConstants.{TOP}
@@ -11,8 +11,7 @@ use Rattle.target_law.specs.Proper.{IsProper, IsPunctual}
 use Rattle.target_law.specs.Rules.{Rules, Owns}
 use Rattle.target_law.specs.Runs.{IsExact, Goes, first, next, Ends, at_once, later, span}
 use Rattle.target_law.proofs.Exact.{exact_end}
-use Rattle.target_law.proofs.Kept.{cycle_proper, cycle_punctual}
-use Rattle.target_law.proofs.Lockstep.{clock-lockstep}
+use Rattle.target_law.proofs.Punctual.{punctual_after}
 use Rattle.violation_watch.specs.BoundedNotes.{IsBoundedBy}
 use Rattle.violation_watch.specs.Scan.{scan_of}
 use Rattle.violation_watch.proofs.Join.{complete}
@@ -22,18 +21,6 @@ use Rattle.pacing.proofs.Ending.{pieces_drift}
 use Rattle.pacing.proofs.Quiet.{all_quiet}
 
 module _ {Inner Chan : Type 0} (rules : Rules Inner Chan) (owns : Owns Inner Chan) (laws : Laws rules owns) where
-  proper_after : (k : ℕ) (s : StateValue Inner Chan) → IsProper rules owns s → s.clock + k ≤ TOP → IsProper rules owns (lockstep rules s k)
-  unfolding lockstep
-  proper_after zero s is low = is
-  proper_after (suc k) s is low =
-      let clock = clock-lockstep rules s k in
-      cycle_proper rules owns laws (lockstep rules s k) (proper_after k s is (omega arith)) (omega arith)
-
-  punctual_after : (k : ℕ) (s : StateValue Inner Chan) → IsProper rules owns s → IsPunctual s → s.clock + k ≤ TOP → IsPunctual (lockstep rules s k)
-  unfolding lockstep
-  punctual_after zero s is punctual low = punctual
-  punctual_after (suc k) s is punctual low = cycle_punctual rules owns laws (lockstep rules s k) (proper_after k s is (omega arith))
-
   module _ (quantum : ℕ) (short : quantum ≤ rules.lookahead) where
     -- an interval that went as lockstep does
     record IsExactStep (k : ℕ) (s : StateValue Inner Chan) (added : List Interval) (e : StateValue Inner Chan) : Type 0 where
@@ -58,7 +45,7 @@ module _ {Inner Chan : Type 0} (rules : Rules Inner Chan) (owns : Owns Inner Cha
           end = end;
           clock = clock;
           proper = whole.proper;
-          punctual = subst IsPunctual (sym end) (punctual_after k s proper punctual top);
+          punctual = subst IsPunctual (sym end) (punctual_after rules owns laws k s proper punctual top);
           quiet = subst (All (λ note. seen_of note ≡ [])) (sym is.noted)
               (All-cons (λ note. seen_of note ≡ []) (Bounded k d (scan_of rules d)) [] quiet (All-nil (λ note. seen_of note ≡ [])));
         }

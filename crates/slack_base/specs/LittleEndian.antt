@@ -1,5 +1,5 @@
 -- Words and lines of memory, lowest byte first.
-use Rattle.std.specs.Prelude.{ℕ, ◌+◌, ◌<◌, ◌≡◌, List, [], ◌∷◌}
+use Rattle.std.specs.Prelude.{ℕ, ◌+◌, List, [], ◌∷◌}
 use Rattle.std.specs.Int.{w32, from_le_bytes, to_le_bytes}
 use Rattle.std.specs.List.{flat_map}
 use Rattle.slack_base.specs.declared.messages.Words.{Words}

@@ -1,5 +1,5 @@
 -- What was written and handed back of a run in speculative mode is what cycle-by-cycle simulation gives.
-use Rattle.std.proofs.Common.{◌≡◌, ◌∙◌, ◌*◌, ◌⊎◌, ℕ, List, Option, Result, Ok, Err, IsOkAnd, IsTrue, inl, inr, sum_by, refl, sym, ap, subst}
+use Rattle.std.proofs.Common.{◌≡◌, ◌∙◌, ◌*◌, ℕ, List, Option, Result, Ok, Err, IsOkAnd, IsTrue, inl, inr, sum_by, refl, sym, ap, subst}
 use Rattle.slack_base.specs.declared.images.Image.{Image}
 use Rattle.slack_base.specs.declared.notes.Interval.{Interval}
 use Rattle.io_edge.specs.Holds.{Holds}

@@ -1,6 +1,4 @@
 pub mod InTurn
 pub mod Crossed
-pub mod Punctual
-pub mod Marking
 pub mod Noting
 pub mod Running

@@ -12,8 +12,10 @@ pub mod Lists
 pub mod Lockstep
 pub mod Loops
 pub mod Numbers
+pub mod OneByOne
 pub mod Orders
 pub mod Places
+pub mod Punctual
 pub mod Running
 pub mod Serving
 pub mod Sights

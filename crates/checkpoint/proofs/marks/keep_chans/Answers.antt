@@ -1,6 +1,6 @@
 use Rattle.std.proofs.Common.{◌<◌, ◌≤◌, ◌≡◌, ◌∙◌, IsSome, None, length, rules, sym, subst}
 use Rattle.checkpoint.proofs.Becoming.{GetsKept}
-use Rattle.checkpoint.proofs.OneByOne.{at_first, not_yet, changed_next, all_maps, all_are}
+use Rattle.target_law.proofs.OneByOne.{at_first, not_yet, changed_next, all_maps, all_are}
 use Rattle.checkpoint.proofs.marks.keep_chans.Goals as goal
 
 pub loop-chan-init : goal.loop-chan-init

@@ -1,5 +1,5 @@
 use Rattle.checkpoint.proofs.Becoming.{GetsKept}
-use Rattle.checkpoint.proofs.OneByOne.{Changed}
+use Rattle.target_law.proofs.OneByOne.{Changed}
 use Rattle.checkpoint.proofs.marks.keep_chans.Given as goal
 
 -- the marks of the channels so far have ended

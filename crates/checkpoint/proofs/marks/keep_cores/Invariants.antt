@@ -1,5 +1,5 @@
 use Rattle.checkpoint.proofs.Becoming.{GetsKept}
-use Rattle.checkpoint.proofs.OneByOne.{Changed}
+use Rattle.target_law.proofs.OneByOne.{Changed}
 use Rattle.checkpoint.proofs.marks.keep_cores.Given as goal
 
 -- the marks of the cores so far have ended

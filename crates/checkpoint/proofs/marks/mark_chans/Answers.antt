@@ -3,7 +3,7 @@ use Rattle.target_law.specs.Proper.{IsChanOf}
 use Rattle.target_law.proofs.Loops.{chan_at}
 use Rattle.checkpoint.proofs.Numbered.{numbered_at}
 use Rattle.checkpoint.proofs.Becoming.{GetsMarked}
-use Rattle.checkpoint.proofs.OneByOne.{at_first, not_yet, changed_next, all_maps, map_some}
+use Rattle.target_law.proofs.OneByOne.{at_first, not_yet, changed_next, all_maps, map_some}
 use Rattle.checkpoint.proofs.marks.mark_chans.Goals as goal
 
 pub loop-chan-init : goal.loop-chan-init

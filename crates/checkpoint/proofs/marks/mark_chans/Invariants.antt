@@ -1,5 +1,5 @@
 use Rattle.checkpoint.proofs.Becoming.{GetsMarked}
-use Rattle.checkpoint.proofs.OneByOne.{Changed}
+use Rattle.target_law.proofs.OneByOne.{Changed}
 use Rattle.checkpoint.proofs.marks.mark_chans.Given as goal
 
 -- the channels so far are marked

@@ -3,7 +3,7 @@ use Rattle.target_law.specs.Proper.{IsCoreOf}
 use Rattle.target_law.proofs.Loops.{core_at}
 use Rattle.checkpoint.proofs.Numbered.{numbered_at}
 use Rattle.checkpoint.proofs.Becoming.{GetsMarked}
-use Rattle.checkpoint.proofs.OneByOne.{at_first, not_yet, changed_next, all_maps, map_some}
+use Rattle.target_law.proofs.OneByOne.{at_first, not_yet, changed_next, all_maps, map_some}
 use Rattle.checkpoint.proofs.marks.mark_cores.Goals as goal
 
 pub loop-core-init : goal.loop-core-init

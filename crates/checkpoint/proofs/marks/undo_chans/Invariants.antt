@@ -1,5 +1,5 @@
 use Rattle.checkpoint.proofs.Becoming.{GoesBack}
-use Rattle.checkpoint.proofs.OneByOne.{Changed}
+use Rattle.target_law.proofs.OneByOne.{Changed}
 use Rattle.checkpoint.proofs.marks.undo_chans.Given as goal
 
 -- the channels so far are back at their marks

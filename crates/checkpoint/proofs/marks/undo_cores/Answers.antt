@@ -1,6 +1,6 @@
 use Rattle.std.proofs.Common.{◌<◌, ◌≤◌, ◌≡◌, ◌∙◌, IsSome, Some, None, length, rules, sym, subst}
 use Rattle.checkpoint.proofs.Becoming.{GoesBack}
-use Rattle.checkpoint.proofs.OneByOne.{at_first, not_yet, changed_next, all_maps, all_are, map_some}
+use Rattle.target_law.proofs.OneByOne.{at_first, not_yet, changed_next, all_maps, all_are, map_some}
 use Rattle.checkpoint.proofs.marks.undo_cores.Goals as goal
 
 pub loop-core-init : goal.loop-core-init

@@ -4,7 +4,7 @@ use Rattle.target_law.specs.Trio.{trio_rules, trio_owns, trio_values}
 use Rattle.target_law.proofs.Loops.{core_at}
 use Rattle.checkpoint.proofs.Numbered.{numbered_at}
 use Rattle.checkpoint.proofs.Becoming.{HasSameMark}
-use Rattle.checkpoint.proofs.OneByOne.{at_first, not_yet, changed_next, all_maps}
+use Rattle.target_law.proofs.OneByOne.{at_first, not_yet, changed_next, all_maps}
 use Rattle.checkpoint.proofs.tests.tick_each.Goals as goal
 
 pub loop-core-init : goal.loop-core-init

@@ -1,6 +1,6 @@
 use Rattle.target_law.specs.Trio.{trio_values}
 use Rattle.checkpoint.proofs.Becoming.{HasSameMark}
-use Rattle.checkpoint.proofs.OneByOne.{Changed}
+use Rattle.target_law.proofs.OneByOne.{Changed}
 use Rattle.checkpoint.proofs.tests.tick_each.Given as goal
 
 -- the marks of the cores so far are as they were

@@ -1,4 +1,4 @@
-use Rattle.std.proofs.Common.{◌≡◌, ◌∙◌, ap, refl, length}
+use Rattle.std.proofs.Common.{◌∙◌, ap, refl, length}
 use Rattle.slack_base.specs.declared.images.Image.{Image}
 use Rattle.image_load.specs.Flat.{flat_file}
 use Rattle.slacksim.specs.RunValues.{run_value}

@@ -1,5 +1,4 @@
-use Rattle.std.proofs.Common.{◌≡◌, ◌∙◌, ap, inr, Err}
-use Rattle.image_load.specs.declared.reading.ImageError.TheVariants.{Fault}
+use Rattle.std.proofs.Common.{ap, inr, Err}
 use Rattle.slacksim.specs.Inputs.{image_refusal}
 use Rattle.slacksim.proofs.outputs.image_in.Goals as goal
 

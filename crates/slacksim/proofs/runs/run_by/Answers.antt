@@ -1,4 +1,4 @@
-use Rattle.std.proofs.Common.{◌*◌, ◌/◌, ◌≤◌, arith}
+use Rattle.std.proofs.Common.{◌≤◌, arith}
 use Rattle.std.proofs.lemmas.List.{length-map}
 use Rattle.slack_base.specs.Numbers.{numbers_of, lines_of}
 use Rattle.timed_core.specs.Code.{code_of}

@@ -4,9 +4,9 @@ use Rattle.io_edge.specs.Holds.{Holds}
 use Rattle.target_law.specs.Cycles.{StateValue}
 use Rattle.target_law.specs.Proper.{IsProper, IsPunctual}
 use Rattle.target_law.specs.Views.{state_of}
-use Rattle.spec_run.proofs.Marking.{still_marked}
+use Rattle.checkpoint.proofs.Staying.{still_marked}
 use Rattle.spec_run.proofs.Noting.{IsMade, quiet_end, kept_so, rolled_so, replayed}
-use Rattle.spec_run.proofs.Punctual.{punctual_after}
+use Rattle.target_law.proofs.Punctual.{punctual_after}
 use Rattle.spec_run.proofs.intervals.one_interval.Goals as goal
 
 pub commit-requires-after_bounds : goal.commit-requires-after_bounds

@@ -1,6 +1,6 @@
 use Rattle.std.proofs.Common.{◌≡◌, ◌∙◌, ◌+◌, ◌*◌, ◌++◌, ◌<◌, subst, sym, ap, append_assoc}
 use Rattle.lockstep_model.specs.Views.{machine_of, values_of}
-use Rattle.stat_report.specs.Dump.{dump_at, dumped, lines_in, words_at}
+use Rattle.stat_report.specs.Dump.{dump_at, dumped, lines_in}
 use Rattle.stat_report.proofs.Places.{from}
 use Rattle.stat_report.proofs.Dumping.{dump_start, dump_more}
 use Rattle.stat_report.proofs.dumps.dump_text.Goals as goal
