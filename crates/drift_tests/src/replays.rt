@@ -145,8 +145,8 @@ fn serve_one<R: Abort>(
     clashes: &mut ClashList,
 ) -> Result<(), Fail>
     requires one { config.now.buses ≡ 1 }
-    requires setting { bus_setting bus.old ≡ Some (setting_of (numbers_of config.now) 0) }
-    ensures { OnOk result (bus_setting bus.new ≡ bus_setting bus.old) }
+    requires setting { bus_setting bus.old.value ≡ Some (setting_of (numbers_of config.now) 0) }
+    ensures { OnOk result (bus_setting bus.new.value ≡ bus_setting bus.old.value) }
 {
     assert!(rt; is_of_bus(config, ask));
     clashes.push(bus.clash(ask))?;
