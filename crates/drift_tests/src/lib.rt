@@ -9,4 +9,6 @@ mod quiet;
 #[cfg(test)]
 mod replays;
 #[cfg(test)]
+mod serial;
+#[cfg(test)]
 mod threads;

@@ -1,0 +1,165 @@
+//! Drifts on one thread: whatever the pace and wherever cores are held, each is one, its monitors see what is to be seen,
+//! and where nothing is seen it ended as lockstep does.
+ghost use Rattle.std.specs.Prelude.{◌≤◌};
+ghost use Rattle.slack_base.specs.declared.bounds.TheConstants.{TOP};
+
+use crate::machines::{STORES, are_same, config_of, image_of};
+use crate::replays::check;
+use drift_run::{Pace, drift_serial};
+use io_edge::{Gate, NeverHold, Stop, StopGate, StopList};
+use lockstep_model::{RvTarget, start};
+use slack_base::Ask;
+use std::alloc::Global;
+use std::process::Abort;
+use std::test::Fail;
+use target_law::{State, Trio, TrioCore, run_to};
+use violation_watch::scan;
+
+/// How many slots a ring has, the slack, and how many idle turns in a row end a leg.
+#[rattlefmt::skip]
+const PACES: [(u32, u64, u32); 27] = [
+    (1, 1, 0), (1, 1, 1), (1, 1, 1000), (1, 8, 0), (1, 8, 1), (1, 8, 1000), (1, 1000, 0), (1, 1000, 1), (1, 1000, 1000),
+    (2, 1, 0), (2, 1, 1), (2, 1, 1000), (2, 8, 0), (2, 8, 1), (2, 8, 1000), (2, 1000, 0), (2, 1000, 1), (2, 1000, 1000),
+    (256, 1, 0), (256, 1, 1), (256, 1, 1000), (256, 8, 0), (256, 8, 1), (256, 8, 1000), (256, 1000, 0), (256, 1000, 1), (256, 1000, 1000),
+];
+
+/// Of these, each two values of two of them once.
+#[rattlefmt::skip]
+const SQUARE: [(u32, u64, u32); 9] = [
+    (1, 1, 0), (1, 8, 1), (1, 1000, 1000),
+    (2, 1, 1), (2, 8, 1000), (2, 1000, 0),
+    (256, 1, 1000), (256, 8, 0), (256, 1000, 1),
+];
+
+/// A core is held before its first cycle, or in the midst of a store; or two cores are.
+const ONE_STOP: [Stop; 1] = [Stop { core: 0, clock: 0 }];
+
+const TWO_STOPS: [Stop; 2] = [Stop { core: 0, clock: 3 }, Stop { core: 1, clock: 1 }];
+
+/// The gate of stops.
+fn gate_of(alloc: Global, stops: &[Stop]) -> Result<StopGate, Fail> {
+    let mut list = StopList::new(alloc);
+    for stop in stops {
+        list.push(*stop)?;
+    }
+    Ok(StopGate { stops: list })
+}
+
+const CYCLES: u64 = 100;
+
+/// Two cores that store to one line.
+fn race<R: Abort + AllocGlobal, G: Gate>(rt: &R, pace: &Pace, gate: &G) -> Result<(), Fail>
+    requires slack { (1 ≤ pace.now.slack) × (pace.now.slack ≤ TOP) }
+    requires slots { 1 ≤ pace.now.slots }
+{
+    let alloc = rt.alloc();
+    let config = config_of(rt, 2);
+    let image = image_of(rt, &config, STORES);
+    let target = RvTarget::make(alloc, config, &image)?;
+    let begun = start(alloc, &target, &image)?;
+    let drifted = drift_serial(alloc, &target, begun, CYCLES, pace, gate)?;
+    check(
+        rt,
+        &config,
+        &image,
+        &target.code,
+        &drifted.drift,
+        &drifted.end,
+    )?;
+    let drift = &drifted.drift;
+    assert_eq!(rt; drift.sent.len(), 2);
+    assert_eq!(rt; drift.clashes.len(), drift.served.len());
+    assert!(rt; scan(alloc, &target, drift)? == drifted.seen);
+    let mut machine = start(alloc, &target, &image)?;
+    run_to(alloc, &target, &mut machine, CYCLES)?;
+    assert!(rt; !drifted.seen.is_empty() || are_same(&drifted.end, &machine));
+    Ok(())
+}
+
+#[test]
+fn races_in_turn(rt: HostRuntime) -> Result<(), Fail> {
+    let one = gate_of(rt.alloc(), &ONE_STOP)?;
+    let two = gate_of(rt.alloc(), &TWO_STOPS)?;
+    for (slots, slack, patience) in &SQUARE {
+        assert!(rt; *slack > 0 && *slack < 2000 && *slots > 0);
+        let pace = Pace {
+            slack: *slack,
+            patience: *patience,
+            slots: *slots,
+        };
+        race(&rt, &pace, &NeverHold)?;
+        race(&rt, &pace, &one)?;
+        race(&rt, &pace, &two)?;
+    }
+    Ok(())
+}
+
+/// What each core of the small machine counted, and its channel.
+fn counts(state: &State<Trio>) -> ([u64; 3], u64) {
+    let count = |core: Option<&TrioCore>| core.map_or(0, |core| core.count());
+    let cores = &state.cores;
+    let total = state.chans.get(0).map_or(0, |chan| chan.total());
+    (
+        [
+            count(cores.get(0)),
+            count(cores.get(1)),
+            count(cores.get(2)),
+        ],
+        total,
+    )
+}
+
+/// Whether the asks of each core c of the small machine are those of the multiples of c + 2, in their order.
+fn are_multiples(served: &[Ask]) -> bool {
+    let mut next = [0u64; 3];
+    for ask in served {
+        let id = ask.id();
+        let Some(cycle) = next.get_mut(id.core as usize) else {
+            return false;
+        };
+        if id.cycle != *cycle {
+            return false;
+        }
+        *cycle = cycle.saturating_add(u64::from(id.core) + 2);
+    }
+    true
+}
+
+/// Twenty cycles of the small machine, in order: 22 asks, of which 9 of core 0, 6 of core 1 and 5 of core 2 are counted.
+const IN_ORDER: ([u64; 3], u64) = ([5, 9, 6], 22);
+
+/// The small machine.
+fn trio<R: Abort + AllocGlobal, G: Gate>(rt: &R, pace: &Pace, gate: &G) -> Result<(), Fail>
+    requires slack { (1 ≤ pace.now.slack) × (pace.now.slack ≤ TOP) }
+    requires slots { 1 ≤ pace.now.slots }
+{
+    let alloc = rt.alloc();
+    let target = Trio::new();
+    let drifted = drift_serial(alloc, &target, Trio::start(alloc)?, 20, pace, gate)?;
+    let drift = &drifted.drift;
+    assert_eq!(rt; drift.served.len(), 22);
+    assert!(rt; are_multiples(drift.served.as_slice()));
+    assert_eq!(rt; drift.clashes.len(), drift.served.len());
+    assert!(rt; scan(alloc, &target, drift)? == drifted.seen);
+    assert_eq!(rt; drifted.end.clock, 20);
+    assert!(rt; !drifted.seen.is_empty() || counts(&drifted.end) == IN_ORDER);
+    Ok(())
+}
+
+#[test]
+fn trios_in_turn(rt: HostRuntime) -> Result<(), Fail> {
+    let one = gate_of(rt.alloc(), &ONE_STOP)?;
+    let two = gate_of(rt.alloc(), &TWO_STOPS)?;
+    for (slots, slack, patience) in &PACES {
+        assert!(rt; *slack > 0 && *slack < 2000 && *slots > 0);
+        let pace = Pace {
+            slack: *slack,
+            patience: *patience,
+            slots: *slots,
+        };
+        trio(&rt, &pace, &NeverHold)?;
+        trio(&rt, &pace, &one)?;
+        trio(&rt, &pace, &two)?;
+    }
+    Ok(())
+}
