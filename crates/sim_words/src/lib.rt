@@ -16,7 +16,7 @@ mod values;
 
 pub use commands::Command;
 pub use orders::Order;
-pub use reading::{WordError, read_words};
+pub use reading::{WordError, read_words, word_fault};
 pub use values::{Format, Mode};
 
 #[cfg(test)]

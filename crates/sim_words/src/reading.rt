@@ -59,6 +59,13 @@ pub fn read_words(alloc: Global, words: &[Arg]) -> Result<Order, WordError>
     })
 }
 
+/// The first fault of the words, if they have one. It takes no memory.
+pub fn word_fault(words: &[Arg]) -> Option<WordFault>
+    ensures { (fault : WordFault) → ((result ≡ Some fault) ↔ (words_of words.now ≡ Err fault)) }
+{
+    request_of(words).err()
+}
+
 /// Words without a fault.
 #[derive(Debug, Drop)]
 struct Request<'a> {

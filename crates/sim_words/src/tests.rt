@@ -1,6 +1,6 @@
 //! What no clause says: that the tables are those of the documents, and that memory serves.
 use crate::steps::wrong_item;
-use crate::{Command, Format, Mode, Order, WordError, read_words};
+use crate::{Command, Format, Mode, Order, WordError, read_words, word_fault};
 use slack_base::{Arg, Config, ConfigFault, OutOfMemory, RawConfig, Step, WordFault};
 use std::alloc::Global;
 use std::test::Fail;
@@ -294,6 +294,20 @@ fn refuses(alloc: Global, cases: &[Refused]) -> bool {
         }
     }
     true
+}
+
+/// The fault of a line without an order of it.
+fn fault_of_line(alloc: Global, line: &[u8]) -> Result<Option<WordFault>, OutOfMemory> {
+    Ok(word_fault(&words_of(alloc, line)?))
+}
+
+#[test]
+fn faults_without_an_order(rt: HostRuntime) -> Result<(), Fail> {
+    for (line, fault) in &FORMS {
+        assert_eq!(rt; fault_of_line(rt.alloc(), line)?, Some(*fault));
+    }
+    assert_eq!(rt; fault_of_line(rt.alloc(), b"run --cores 2")?, None);
+    Ok(())
 }
 
 #[test]

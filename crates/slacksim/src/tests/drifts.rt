@@ -9,7 +9,7 @@ const ALL_ZERO: Answer = Answer::Done { all_zero: true };
 /// A core loads a word, and exits with 0.
 const LOADS: &[u8] = b"lui x8, 1\nlw x5, 0(x8)\naddi x17, x0, 93\naddi x10, x0, 0\necall";
 
-const DRIFTS: [Case; 6] = [
+const DRIFTS: [Case; 7] = [
     // Core 1 runs ahead, and its ask is served before core 0's of the same cycle: the two change places.
     Case {
         words: &[
@@ -27,6 +27,31 @@ const DRIFTS: [Case; 6] = [
         status: 0,
         answer: ALL_ZERO,
         text: b"cores 2\ncycles 22\ncore 0 exit 0 at 21 retired 5 accesses 1 misses 6 retries 5 waits 11 snoops 0 writebacks 0\ncore 1 exit 0 at 14 retired 5 accesses 1 misses 1 retries 0 waits 9 snoops 1 writebacks 0\nbus 0 asks 8 retries 5 free 17\nconsole 0\n\ninterval 0 bounded 1000 bus 1 map 1 line 0 reply 0\nbus channel 0 high 1.1.0 low 1.0.0\nmap line 256 high 1.1.0 low 1.0.0\nticks drift 2000 replay 0\n",
+    },
+    // Core 0 ticks through all cycles at once: its reply, and the snoop for core 1's ask, are taken at the end.
+    Case {
+        words: &[
+            "run",
+            "--cores",
+            "2",
+            "--mode",
+            "script",
+            "--interval",
+            "100",
+            "--limit",
+            "100",
+            "--notes",
+            "on",
+            "--steps",
+            "t0x100",
+        ],
+        input: STORES,
+        status: 4,
+        answer: Answer::Limit {
+            cycle: 100,
+            running: 2,
+        },
+        text: b"cores 2\ncycles 100\ncore 0 running at 100 retired 1 accesses 0 misses 1 retries 0 waits 98 snoops 0 writebacks 0\ncore 1 running at 100 retired 1 accesses 0 misses 6 retries 5 waits 93 snoops 0 writebacks 0\nbus 0 asks 7 retries 5 free 15\nconsole 0\n\ninterval 0 bounded 100 bus 0 map 0 line 1 reply 1\nreply core 0 id 1.0.0 due 11 clock 100\nline core 0 id 13.1.0 due 15 clock 100\nticks drift 200 replay 0\n",
     },
     // The reply is due at 11, and the core takes it at 12, which is the end: it is late.
     Case {
