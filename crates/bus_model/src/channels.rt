@@ -1,5 +1,5 @@
 //! A channel: a bus or the console.
-ghost use Rattle.std.specs.Prelude.{◌≡◌, ◌+◌, ◌<◌, ◌≤◌, ◌++◌, [], None, Some, IfOk, IsSome, OnErr, OnOk};
+ghost use Rattle.std.specs.Prelude.{◌≡◌, ◌+◌, ◌<◌, ◌≤◌, ◌++◌, [], None, Some, IfNone, IfOk, IfSome, OnErr, OnOk};
 ghost use Rattle.bus_model.specs.Asks.{channel_of};
 
 use crate::buses::Bus;
@@ -156,19 +156,17 @@ impl Channel {
 
     /// The channel is again as it was at its mark, and isn't marked any more. It takes no memory.
     pub fn undo(&mut self)
-        requires { IsSome self.old.saved }
-        ensures value { self.old.saved ≡ Some self.new.value }
+        ensures marked { IfSome self.old.saved (λ v. self.new.value ≡ v) }
+        ensures unmarked { IfNone self.old.saved (self.new.value ≡ self.old.value) }
         ensures saved { self.new.saved ≡ None }
     {
-        match self.saved.take() {
-            Some(saved) => self.kind = saved,
-            None => unreachable!(),
+        if let Some(saved) = self.saved.take() {
+            self.kind = saved;
         }
     }
 
     /// The channel stays as it is, and isn't marked any more. It takes no memory.
     pub fn keep(&mut self)
-        requires { IsSome self.old.saved }
         ensures { self.new ≡ record { value = self.old.value; saved = None } }
     {
         self.saved = None;

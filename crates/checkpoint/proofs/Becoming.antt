@@ -1,5 +1,5 @@
 -- What an item is marked, taken back and kept as. An item is seen as its value and the value at its mark.
-use Rattle.std.proofs.Common.{◌≡◌, Option, Some, None}
+use Rattle.std.proofs.Common.{◌≡◌, Option, Some, None, IsSome, IfSome, sym, ap}
 
 module _ {X V : Type 0} (value : X → V) (saved : X → Option V) where
   pub record GetsMarked (old now : X) : Type 0 where
@@ -17,3 +17,8 @@ module _ {X V : Type 0} (value : X → V) (saved : X → Option V) where
 -- its mark is as it was
 abbrev pub HasSameMark : {X V : Type 0} → (X → Option V) → X → X → Type 0
 HasSameMark saved old now = saved now ≡ saved old
+
+-- what is marked comes to be its mark
+pub back_at : {V : Type 0} (saved : Option V) (now : V) → IsSome saved → IfSome saved (λ v. now ≡ v) → saved ≡ Some now
+back_at None now some is = cc
+back_at (Some v) now some is = ap Some (sym is)

@@ -4,8 +4,8 @@ use crate::targets::Target;
 use slack_base::{Ask, AskList, Id, OutOfMemory, Post, PostList};
 
 /// The same machine, which does the same. Contracts see the marks of its cores and channels as part of their values, which
-/// no put, tick, serving and closing changes. So it isn't marked through this one: the calls that mark say that memory is
-/// wanting.
+/// no put, tick, serving and closing changes. It has no marks of its own: the calls that would set one say that memory is
+/// wanting, and those that end one do nothing.
 #[derive(Drop)]
 pub struct InSight<'a, T: Target> {
     target: &'a T,
@@ -101,25 +101,17 @@ impl<'a, T: Target> Target for InSight<'a, T> {
         Err(OutOfMemory)
     }
 
-    fn undo_core(&self, _core: &mut T::Core) {
-        unreachable!()
-    }
+    fn undo_core(&self, _core: &mut T::Core) {}
 
-    fn keep_core(&self, _core: &mut T::Core) {
-        unreachable!()
-    }
+    fn keep_core(&self, _core: &mut T::Core) {}
 
     fn mark_chan(&self, _chan: &mut T::Chan) -> Result<(), OutOfMemory> {
         Err(OutOfMemory)
     }
 
-    fn undo_chan(&self, _chan: &mut T::Chan) {
-        unreachable!()
-    }
+    fn undo_chan(&self, _chan: &mut T::Chan) {}
 
-    fn keep_chan(&self, _chan: &mut T::Chan) {
-        unreachable!()
-    }
+    fn keep_chan(&self, _chan: &mut T::Chan) {}
 
     ghost laws = { λ t. laws_in_sight (T.rules t.target.now) (T.owns t.target.now) (T.laws t.target.now) };
 }

@@ -1,5 +1,5 @@
 //! What a machine of cores and channels brings along.
-ghost use Rattle.std.specs.Prelude.{◌≡◌, ◌==◌, ◌&&◌, ◌≤◌, ◌++◌, None, Some, OnOk, IsSome};
+ghost use Rattle.std.specs.Prelude.{◌≡◌, ◌==◌, ◌&&◌, ◌≤◌, ◌++◌, None, Some, IfNone, IfSome, OnOk};
 ghost use Rattle.slack_base.specs.declared.bounds.TheConstants.{TOP};
 ghost use Rattle.slack_base.specs.Inboxes.{with_put};
 ghost use Rattle.target_law.specs.Cycles.{tick_of};
@@ -108,15 +108,14 @@ pub trait Target {
         ensures core { OnOk result (values.core core.new ≡ values.core core.old) }
         ensures saved { OnOk result (values.saved_core core.new ≡ Some (values.core core.old)) };
 
-    /// Takes the core back to its mark, and ends the mark. It takes no memory.
+    /// Takes the core back to its mark, and ends the mark. One that isn't marked stays as it is. It takes no memory.
     fn undo_core(&self, core: &mut Self::Core)
-        requires { IsSome (values.saved_core core.old) }
-        ensures core { values.saved_core core.old ≡ Some (values.core core.new) }
+        ensures marked { IfSome (values.saved_core core.old) (λ v. values.core core.new ≡ v) }
+        ensures unmarked { IfNone (values.saved_core core.old) (values.core core.new ≡ values.core core.old) }
         ensures saved { values.saved_core core.new ≡ None };
 
-    /// Ends the core's mark. It takes no memory.
+    /// Ends the core's mark, if it has one. It takes no memory.
     fn keep_core(&self, core: &mut Self::Core)
-        requires { IsSome (values.saved_core core.old) }
         ensures core { values.core core.new ≡ values.core core.old }
         ensures saved { values.saved_core core.new ≡ None };
 
@@ -126,15 +125,14 @@ pub trait Target {
         ensures chan { OnOk result (values.chan chan.new ≡ values.chan chan.old) }
         ensures saved { OnOk result (values.saved_chan chan.new ≡ Some (values.chan chan.old)) };
 
-    /// Takes the channel back to its mark, and ends the mark. It takes no memory.
+    /// Takes the channel back to its mark, and ends the mark. One that isn't marked stays as it is. It takes no memory.
     fn undo_chan(&self, chan: &mut Self::Chan)
-        requires { IsSome (values.saved_chan chan.old) }
-        ensures chan { values.saved_chan chan.old ≡ Some (values.chan chan.new) }
+        ensures marked { IfSome (values.saved_chan chan.old) (λ v. values.chan chan.new ≡ v) }
+        ensures unmarked { IfNone (values.saved_chan chan.old) (values.chan chan.new ≡ values.chan chan.old) }
         ensures saved { values.saved_chan chan.new ≡ None };
 
-    /// Ends the channel's mark. It takes no memory.
+    /// Ends the channel's mark, if it has one. It takes no memory.
     fn keep_chan(&self, chan: &mut Self::Chan)
-        requires { IsSome (values.saved_chan chan.old) }
         ensures chan { values.chan chan.new ≡ values.chan chan.old }
         ensures saved { values.saved_chan chan.new ≡ None };
 

@@ -31,7 +31,7 @@ impl Model for TimedCore {
 }
 
 impl TimedCore {
-    ghost use Rattle.std.specs.Prelude.{◌≡◌, ◌<◌, ◌≤◌, ◌++◌, [], IfOk, IsSome, OnOk, OnErr, None, Some, not, slice_index};
+    ghost use Rattle.std.specs.Prelude.{◌≡◌, ◌<◌, ◌≤◌, ◌++◌, [], IfNone, IfOk, IfSome, OnOk, OnErr, None, Some, not, slice_index};
     ghost use Rattle.slack_base.specs.Numbers.{numbers_of};
     ghost use Rattle.slack_base.specs.Inboxes.{with_put, tick_by};
     ghost use Rattle.slack_base.specs.declared.bounds.TheConstants.{TOP};
@@ -171,8 +171,8 @@ impl TimedCore {
 
     /// Takes the core back to what it was at its mark, which is used up. It takes no memory.
     pub fn undo(&mut self)
-        requires { IsSome self.old.saved }
-        ensures value { self.old.saved ≡ Some self.new.value }
+        ensures marked { IfSome self.old.saved (λ v. self.new.value ≡ v) }
+        ensures unmarked { IfNone self.old.saved (self.new.value ≡ self.old.value) }
         ensures saved { self.new.saved ≡ None }
     {
         if let Some(saved) = self.saved.take() {
@@ -183,7 +183,6 @@ impl TimedCore {
 
     /// Gives up the mark, and leaves the core as it is. It takes no memory.
     pub fn keep(&mut self)
-        requires { IsSome self.old.saved }
         ensures { self.new ≡ record { value = self.old.value; saved = None } }
     {
         self.saved = None;

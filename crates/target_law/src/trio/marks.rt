@@ -34,7 +34,7 @@ impl ChanTally {
 }
 
 impl TrioCore {
-    ghost use Rattle.std.specs.Prelude.{◌≡◌, None, Some, IsSome, OnOk};
+    ghost use Rattle.std.specs.Prelude.{◌≡◌, None, Some, IfNone, IfSome, OnOk};
 
     /// Saves the present value, in place of one that was saved before.
     pub fn mark(&mut self) -> Result<(), OutOfMemory>
@@ -44,10 +44,10 @@ impl TrioCore {
         Ok(())
     }
 
-    /// Goes back to the saved value, and ends the mark.
+    /// Goes back to the saved value, if there is one, and ends the mark.
     pub fn undo(&mut self)
-        requires { IsSome self.old.saved }
-        ensures core { self.old.saved ≡ Some self.new.value }
+        ensures marked { IfSome self.old.saved (λ v. self.new.value ≡ v) }
+        ensures unmarked { IfNone self.old.saved (self.new.value ≡ self.old.value) }
         ensures saved { self.new.saved ≡ None }
     {
         if let Some(saved) = self.saved.take() {
@@ -55,9 +55,8 @@ impl TrioCore {
         }
     }
 
-    /// Ends the mark.
+    /// Ends the mark, if there is one.
     pub fn keep(&mut self)
-        requires { IsSome self.old.saved }
         ensures { self.new ≡ record { value = self.old.value; saved = None } }
     {
         self.saved = None;
@@ -65,7 +64,7 @@ impl TrioCore {
 }
 
 impl TrioChan {
-    ghost use Rattle.std.specs.Prelude.{◌≡◌, None, Some, IsSome};
+    ghost use Rattle.std.specs.Prelude.{◌≡◌, None, Some, IfNone, IfSome};
 
     /// Saves the present value, in place of one that was saved before.
     pub fn mark(&mut self)
@@ -74,10 +73,10 @@ impl TrioChan {
         self.saved = Some(self.tally.copy());
     }
 
-    /// Goes back to the saved value, and ends the mark.
+    /// Goes back to the saved value, if there is one, and ends the mark.
     pub fn undo(&mut self)
-        requires { IsSome self.old.saved }
-        ensures chan { self.old.saved ≡ Some self.new.value }
+        ensures marked { IfSome self.old.saved (λ v. self.new.value ≡ v) }
+        ensures unmarked { IfNone self.old.saved (self.new.value ≡ self.old.value) }
         ensures saved { self.new.saved ≡ None }
     {
         if let Some(saved) = self.saved.take() {
@@ -85,9 +84,8 @@ impl TrioChan {
         }
     }
 
-    /// Ends the mark.
+    /// Ends the mark, if there is one.
     pub fn keep(&mut self)
-        requires { IsSome self.old.saved }
         ensures { self.new ≡ record { value = self.old.value; saved = None } }
     {
         self.saved = None;

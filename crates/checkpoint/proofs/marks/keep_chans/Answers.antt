@@ -1,18 +1,10 @@
-use Rattle.std.proofs.Common.{◌<◌, ◌≤◌, ◌≡◌, ◌∙◌, IsSome, None, length, rules, sym, subst}
+use Rattle.std.proofs.Common.{◌<◌, ◌≤◌, ◌≡◌, None, length, rules}
 use Rattle.checkpoint.proofs.Becoming.{GetsKept}
-use Rattle.target_law.proofs.OneByOne.{at_first, not_yet, changed_next, all_maps, all_are}
+use Rattle.target_law.proofs.OneByOne.{at_first, changed_next, all_maps, all_are}
 use Rattle.checkpoint.proofs.marks.keep_chans.Goals as goal
 
 pub loop-chan-init : goal.loop-chan-init
 loop-chan-init g c = at_first (GetsKept g.T.Target.values.chan g.T.Target.values.saved_chan) c.args.chans.now
-
-pub keep_chan-requires : goal.keep_chan-requires
-keep_chan-requires g c =
-    let Becomes = GetsKept g.T.Target.values.chan g.T.Target.values.saved_chan in
-    let within : c.loop-chan.chan-index < length c.args.chans.now = search rules in
-    let item = c.chan-item.result in
-    let is = not_yet Becomes c.loop-chan.chan-index c.args.chans.now c.loop-chan.chans item within c.loop-chan.invariant c.chan-item.is in
-    subst (λ x. IsSome (g.T.Target.values.saved_chan x)) (sym is ∙ c.chan-item.is) (c.requires c.loop-chan.chan-index item within)
 
 pub loop-chan-preserved : goal.loop-chan-preserved
 loop-chan-preserved g c =

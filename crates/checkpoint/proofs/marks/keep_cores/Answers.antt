@@ -1,18 +1,10 @@
-use Rattle.std.proofs.Common.{◌<◌, ◌≤◌, ◌≡◌, ◌∙◌, IsSome, None, length, rules, sym, subst}
+use Rattle.std.proofs.Common.{◌<◌, ◌≤◌, ◌≡◌, None, length, rules}
 use Rattle.checkpoint.proofs.Becoming.{GetsKept}
-use Rattle.target_law.proofs.OneByOne.{at_first, not_yet, changed_next, all_maps, all_are}
+use Rattle.target_law.proofs.OneByOne.{at_first, changed_next, all_maps, all_are}
 use Rattle.checkpoint.proofs.marks.keep_cores.Goals as goal
 
 pub loop-core-init : goal.loop-core-init
 loop-core-init g c = at_first (GetsKept g.T.Target.values.core g.T.Target.values.saved_core) c.args.cores.now
-
-pub keep_core-requires : goal.keep_core-requires
-keep_core-requires g c =
-    let Becomes = GetsKept g.T.Target.values.core g.T.Target.values.saved_core in
-    let within : c.loop-core.core-index < length c.args.cores.now = search rules in
-    let item = c.core-item.result in
-    let is = not_yet Becomes c.loop-core.core-index c.args.cores.now c.loop-core.cores item within c.loop-core.invariant c.core-item.is in
-    subst (λ x. IsSome (g.T.Target.values.saved_core x)) (sym is ∙ c.core-item.is) (c.requires c.loop-core.core-index item within)
 
 pub loop-core-preserved : goal.loop-core-preserved
 loop-core-preserved g c =

@@ -1,25 +1,20 @@
 use Rattle.std.proofs.Common.{◌<◌, ◌≤◌, ◌≡◌, ◌∙◌, IsSome, Some, None, length, rules, sym, subst}
-use Rattle.checkpoint.proofs.Becoming.{GoesBack}
+use Rattle.checkpoint.proofs.Becoming.{GoesBack, back_at}
 use Rattle.target_law.proofs.OneByOne.{at_first, not_yet, changed_next, all_maps, all_are, map_some}
 use Rattle.checkpoint.proofs.marks.undo_cores.Goals as goal
 
 pub loop-core-init : goal.loop-core-init
 loop-core-init g c = at_first (GoesBack g.T.Target.values.core g.T.Target.values.saved_core) c.args.cores.now
 
-pub undo_core-requires : goal.undo_core-requires
-undo_core-requires g c =
-    let Becomes = GoesBack g.T.Target.values.core g.T.Target.values.saved_core in
-    let within : c.loop-core.core-index < length c.args.cores.now = search rules in
-    let item = c.core-item.result in
-    let is = not_yet Becomes c.loop-core.core-index c.args.cores.now c.loop-core.cores item within c.loop-core.invariant c.core-item.is in
-    subst (λ x. IsSome (g.T.Target.values.saved_core x)) (sym is ∙ c.core-item.is) (c.requires c.loop-core.core-index item within)
-
 pub loop-core-preserved : goal.loop-core-preserved
 loop-core-preserved g c =
     let Becomes = GoesBack g.T.Target.values.core g.T.Target.values.saved_core in
     let within : c.loop-core.core-index < length c.args.cores.now = search rules in
+    let item = c.core-item.result in
+    let is = not_yet Becomes c.loop-core.core-index c.args.cores.now c.loop-core.cores item within c.loop-core.invariant c.core-item.is in
+    let some = subst (λ x. IsSome (g.T.Target.values.saved_core x)) (sym is ∙ c.core-item.is) (c.requires c.loop-core.core-index item within) in
     changed_next Becomes c.loop-core.core-index c.args.cores.now c.loop-core.cores c.core-item.result c.undo_core.new.core within c.loop-core.invariant
-    (record { back = c.undo_core.ensures.core; no_mark = c.undo_core.ensures.saved })
+    (record { back = back_at _ _ some c.undo_core.ensures.marked; no_mark = c.undo_core.ensures.saved })
 
 pub returns-clause-cores : goal.returns-clause-cores
 returns-clause-cores g c =
