@@ -5,6 +5,8 @@
 #[cfg(test)]
 mod machines;
 #[cfg(test)]
+mod marks;
+#[cfg(test)]
 mod quiet;
 #[cfg(test)]
 mod replays;

@@ -1,6 +1,6 @@
 //! A leg of a manager over the small target, whose cores have asked once each. What actors do beside it is tested over
 //! drifts.
-ghost use Rattle.std.specs.Prelude.{◌≡◌, ◌+◌, [], ◌∷◌, length, OnOk, IfOk};
+ghost use Rattle.std.specs.Prelude.{◌≡◌, ◌+◌, [], ◌∷◌, None, length, OnOk, IfOk};
 ghost use Rattle.core_gate.specs.Seats.{cores_of};
 ghost use Rattle.stamp_queue.specs.Rings.{all_received};
 ghost use Rattle.target_law.specs.Trio.{trio_rules, trio_owns, trio_values, first_chan};
@@ -75,7 +75,7 @@ fn overseer(alloc: Global) -> Result<Overseer, OutOfMemory>
 
 /// The small target's channel.
 fn chans(alloc: Global) -> Result<Row<TrioChan>, OutOfMemory>
-    ensures { IfOk result (λ chans. chans ≡ first_chan 0 ∷ []) }
+    ensures { IfOk result (λ chans. chans ≡ record { value = first_chan 0; saved = None } ∷ []) }
 {
     let mut chans = Row::new(alloc);
     chans.push(TrioChan::new(0))?;

@@ -1,5 +1,6 @@
-use Rattle.std.proofs.Common.{◌≡◌, List, [], ◌∷◌, refl, ap, map, length, subst, sym, arith}
+use Rattle.std.proofs.Common.{◌≡◌, List, [], ◌∷◌, None, refl, ap, map, length, subst, sym, arith}
 use Rattle.std.proofs.lemmas.Result.{IfOk-weaker}
+use Rattle.slack_base.specs.Marks.{Marked}
 use Rattle.target_law.specs.Numbered.{AllNumbered}
 use Rattle.target_law.specs.Proper.{IsChanOf}
 use Rattle.target_law.specs.Trio.{TrioChannel, trio_rules, trio_owns, trio_values, first_chan}
@@ -8,16 +9,19 @@ use Rattle.manager.specs.Openings.{IsOpening}
 use Rattle.manager.proofs.Opened.{all_ready_openings}
 use Rattle.manager.proofs.tests.asked.Goals as goal
 
-own : AllNumbered (IsChanOf trio_rules trio_owns) 0 (map trio_values.chan (first_chan 0 ∷ []))
+abbrev unmarked : Marked TrioChannel
+unmarked = record { value = first_chan 0; saved = None }
+
+own : AllNumbered (IsChanOf trio_rules trio_owns) 0 (map trio_values.chan (unmarked ∷ []))
 own = (record { own = omega arith; number = refl }, tt)
 
 pub returns : goal.returns
 returns c =
-    let only : c.in_ok-chans.chans ≡ first_chan 0 ∷ [] = c.in_ok-chans.ensures in
+    let only : c.in_ok-chans.chans ≡ unmarked ∷ [] = c.in_ok-chans.ensures in
     IfOk-weaker c.new.result (IsOpening c.in_ok-chans.chans c.in_ok-asks.asks c.in_ok-asks.posts c.in_ok-overseer.overseer) (IsReadyManager trio_rules trio_owns trio_values)
     (λ m is. (all_ready_openings trio_rules trio_owns trio_values c.in_ok-chans.chans c.in_ok-asks.asks c.in_ok-asks.posts c.in_ok-overseer.overseer m is c.in_ok-asks.ensures.unused (record {
       chan_count = ap length only;
-      own_chans = subst (λ (chans : List TrioChannel). AllNumbered (IsChanOf trio_rules trio_owns) 0 (map trio_values.chan chans)) (sym only) own;
+      own_chans = subst (λ (chans : List (Marked TrioChannel)). AllNumbered (IsChanOf trio_rules trio_owns) 0 (map trio_values.chan chans)) (sym only) own;
       rings = c.in_ok-asks.ensures.count.0;
       clocks = c.in_ok-overseer.ensures;
     })).ready)

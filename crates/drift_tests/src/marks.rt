@@ -1,0 +1,76 @@
+//! A machine that drifted away from its mark, and was taken back to it.
+ghost use Rattle.std.specs.Prelude.{◌≡◌, ◌+◌, ◌≤◌, IfOk};
+ghost use Rattle.slack_base.specs.declared.bounds.TheConstants.{TOP};
+ghost use Rattle.slack_base.specs.Numbers.{numbers_of};
+ghost use Rattle.target_law.specs.Marks.{IsMarkedAt};
+ghost use Rattle.target_law.specs.Proper.{IsProper};
+ghost use Rattle.lockstep_model.specs.Rules.{owns_of, rules_of, stored_values};
+ghost use Rattle.lockstep_model.specs.Views.{machine_of};
+
+use crate::machines::{STORES, are_same, config_of, image_of};
+use checkpoint::Checkpoint;
+use drift_run::{Pace, drift_serial};
+use io_edge::NeverHold;
+use lockstep_model::{Machine, RvTarget, start};
+use slack_base::OutOfMemory;
+use std::alloc::Global;
+use std::test::Fail;
+use target_law::run_to;
+
+/// How the drift is paced.
+const PACE: Pace = Pace {
+    slack: 8,
+    patience: 10,
+    slots: 16,
+};
+
+/// A machine that drifted from its mark.
+#[derive(Drop)]
+struct Away {
+    checkpoint: Checkpoint,
+    machine: Machine,
+}
+
+/// Marks a machine, and lets it drift over so many cycles.
+fn drift_away(
+    alloc: Global,
+    target: &RvTarget,
+    machine: Machine,
+    cycles: u64,
+) -> Result<Away, OutOfMemory>
+    requires proper { IsProper (rules_of (numbers_of target.now.config) target.now.code) (owns_of (numbers_of target.now.config)) (machine_of machine) }
+    requires top { machine.clock + cycles ≤ TOP }
+    ensures marked { IfOk result (λ r. IsMarkedAt stored_values (machine_of machine) r.machine) }
+{
+    let mut marked = machine;
+    let checkpoint = Checkpoint::take(target, &mut marked)?;
+    let drifted = drift_serial(alloc, target, marked, cycles, &PACE, &NeverHold)?;
+    Ok(Away {
+        checkpoint,
+        machine: drifted.end,
+    })
+}
+
+/// Two cores that store to one line. At cycle 5 core 0 waits for it, and core 1 asks once more.
+#[test]
+fn a_machine_is_taken_back(rt: HostRuntime) -> Result<(), Fail> {
+    let alloc = rt.alloc();
+    let config = config_of(&rt, 2);
+    let image = image_of(&rt, &config, STORES);
+    let target = RvTarget::make(alloc, config, &image)?;
+    let mut machine = start(alloc, &target, &image)?;
+    run_to(alloc, &target, &mut machine, 5)?;
+    let mut other = start(alloc, &target, &image)?;
+    run_to(alloc, &target, &mut other, 5)?;
+    let Away {
+        checkpoint,
+        mut machine,
+    } = drift_away(alloc, &target, machine, 60)?;
+    assert_eq!(rt; machine.clock, 65);
+    assert!(rt; !are_same(&machine, &other));
+    checkpoint.restore(&target, &mut machine);
+    assert!(rt; are_same(&machine, &other));
+    run_to(alloc, &target, &mut other, 100)?;
+    assert!(rt; !are_same(&machine, &other));
+    Ok(())
+}
