@@ -1,10 +1,10 @@
 #!/usr/bin/env bash
-# The modes side by side: four cores on lines of their own and on lines that they share, over 400,000 cycles. For each slack
+# The modes side by side: four cores on lines of their own and on lines that they share, over 200,000 cycles. For each slack
 # and interval, simulated core-cycles a second, and in speculative mode how many of the intervals were rolled back. It is a
 # measurement and no test, and differs from run to run.
 set -eu
 top=$(cd "$(dirname "${BASH_SOURCE[0]}")/.." && pwd)
-limit=400000
+limit=200000
 
 # The seconds of a run of an image, its notes left in the file.
 timed() {
