@@ -1,5 +1,5 @@
 -- A core as its posts and its ticks see it: an inner value, and the posts that wait for it in order of (due, id).
-use Rattle.std.specs.Prelude.{ℕ, ◌==◌, ◌&&◌, ◌||◌, Bool, List, [], ◌∷◌, filter, nat_le, nat_lt, if◌then◌else◌}
+use Rattle.std.specs.Prelude.{ℕ, ◌+◌, ◌==◌, ◌&&◌, ◌||◌, Bool, List, [], ◌∷◌, ◌++◌, filter, nat_le, nat_lt, zero, suc, if◌then◌else◌}
 use Rattle.slack_base.specs.declared.messages.Ask.{Ask}
 use Rattle.slack_base.specs.declared.messages.Post.{Post}
 use Rattle.slack_base.specs.Stamps.{is_above}
@@ -29,3 +29,12 @@ module _ {Inner : Type 0} where
   tick_by tick t core =
       let ticked = tick core.inner t (filter (λ p. nat_le p.due t) core.inbox) in
       (record { inner = ticked.0; inbox = filter (λ p. nat_lt t p.due) core.inbox }, ticked.1)
+
+  -- k ticks from clock t on, one after another, with no new post: the core after them, and the asks that it sends, in the
+  -- order in which it sends them
+  abbrev pub ticks_by : (Inner → ℕ → List Post → Inner × List Ask) → (t k : ℕ) → CoreValue Inner → CoreValue Inner × List Ask
+  ticks_by tick t zero core = (core, [])
+  ticks_by tick t (suc k) core =
+      let now = tick_by tick t core in
+      let rest = ticks_by tick (t + 1) k now.0 in
+      (rest.0, now.1 ++ rest.1)

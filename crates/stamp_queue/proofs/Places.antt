@@ -1,5 +1,5 @@
 -- Where a post is put into a list in order.
-use Rattle.std.proofs.Common.{◌≡◌, ℕ, ◌<◌, true, false, cond, List, [], ◌∷◌, Some, refl, sym, ◌∙◌, ap, arith, slice_get, subst}
+use Rattle.std.proofs.Common.{◌≡◌, ℕ, ◌<◌, ◌≤◌, true, false, cond, List, [], ◌∷◌, Some, refl, sym, ◌∙◌, ap, arith, slice_get, subst}
 use Rattle.std.specs.List.{AllByRecursion}
 use Rattle.slack_base.specs.declared.messages.Post.{Post}
 use Rattle.slack_base.specs.Inboxes.{is_later, with_post}
@@ -21,6 +21,14 @@ pub none_due_from_first : (cycle : ℕ) (p : Post) (inbox : List Post) → IsInO
 none_due_from_first cycle p [] o first h = tt
 none_due_from_first cycle p (q ∷ inbox) o first h =
     let same : p ≡ q = cc in none_due cycle q inbox o (subst (λ r. cycle < r.due) same h)
+
+-- no post of a list is due before its first
+pub none_before_first : (p : Post) (inbox : List Post) → IsInOrder inbox → Some p ≡ slice_get inbox 0 → AllByRecursion (λ q. p.due ≤ q.due) inbox
+none_before_first p [] o first = tt
+none_before_first p (q ∷ inbox) o first =
+    let same : q ≡ p = cc in
+    subst (λ r. AllByRecursion (λ x. r.due ≤ x.due) (q ∷ inbox)) same
+    (omega arith, weaker (λ x. is_later q x ≡ false) (λ x. q.due ≤ x.due) (λ x no_later. due_no_later q x no_later) inbox o.0)
 
 -- one post of the list compared
 with_post-pass : (p q : Post) (inbox : List Post) → is_later q p ≡ false → with_post (q ∷ inbox) p ≡ q ∷ with_post inbox p

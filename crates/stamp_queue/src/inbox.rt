@@ -2,7 +2,7 @@
 ghost use Rattle.std.specs.Prelude.{◌≡◌, ◌+◌, ◌<◌, ◌≤◌, ◌↔◌, [], ◌∷◌, ◌++◌, length, take, drop, false, IsTrue, IsNone, IfNone, IfOk, IfSome, OnOk, OnErr};
 ghost use Rattle.std.specs.List.{AllByRecursion};
 ghost use Rattle.slack_base.specs.Inboxes.{is_later, with_post};
-ghost use Rattle.stamp_queue.specs.Inbox.{IsInOrder, IsPutBetween};
+ghost use Rattle.stamp_queue.specs.Inbox.{IsInOrder, IsPutBetween, next_due};
 
 use slack_base::{OutOfMemory, Post};
 use std::alloc::Global;
@@ -60,6 +60,18 @@ impl Inbox {
         ensures { IsTrue result ↔ (self.now ≡ []) }
     {
         self.posts.is_empty()
+    }
+
+    /// The cycle at which the first post is due, before which none is: the greatest `u64` where no post waits.
+    pub fn next_due(&self) -> u64
+        ensures value { result ≡ next_due self.now }
+        ensures before { AllByRecursion (λ p. result ≤ p.due) self.now }
+        ensures in_order { IsInOrder self.now }
+    {
+        match self.posts.first() {
+            Some(post) => post.due,
+            None => u64::MAX,
+        }
     }
 
     /// Puts a post in its place, behind those of the same due and id that are there.
