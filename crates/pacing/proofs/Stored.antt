@@ -13,7 +13,7 @@ use Rattle.slack_base.specs.Stamps.{id_cmp}
 use Rattle.slack_base.specs.declared.bounds.TheConstants.{TOP}
 use Rattle.slack_base.specs.declared.messages.Post.{Post}
 use Rattle.slack_base.specs.declared.stamps.Id.{Id}
-use Rattle.target_law.specs.Cycles.{through}
+use Rattle.target_law.specs.Cycles.{through, ticks_of}
 use Rattle.target_law.specs.Laws.{Laws}
 use Rattle.target_law.specs.Numbered.{AllNumbered}
 use Rattle.target_law.specs.Proper.{IsProperAsk, IsProperPost, IsPostTo, IsCore, IsChanOf}
@@ -27,7 +27,7 @@ use Rattle.violation_watch.proofs.Quiet.{each_of_map}
 use Rattle.drive_script.proofs.Underway.{through_clashes-append}
 use Rattle.target_law.specs.Served.{AreRising}
 use Rattle.pacing.specs.Open.{IsLaneOf, IsOpen}
-use Rattle.pacing.specs.Pieces.{LaneValue, UnderwayValue, ticks_of, lane_ticked, asks_through, lane_taking, all_taking, pieced, IsPiece}
+use Rattle.pacing.specs.Pieces.{LaneValue, UnderwayValue, lane_ticked, asks_through, lane_taking, all_taking, pieced, IsPiece}
 use Rattle.pacing.proofs.Opened.{length-taking, posts_proper, ticked_lanes}
 use Rattle.pacing.proofs.Orders.{rising_sorted}
 use Rattle.pacing.proofs.Shares.{all_distinct, served_proper}

@@ -9,7 +9,7 @@ use Rattle.slack_base.specs.declared.messages.Ask.{Ask}
 use Rattle.slack_base.specs.Inboxes.{CoreValue}
 use Rattle.slack_base.specs.Messages.{id_of}
 use Rattle.target_law.specs.Alone.{Alone, ticks}
-use Rattle.target_law.specs.Cycles.{tick_of}
+use Rattle.target_law.specs.Cycles.{tick_of, ticks_of}
 use Rattle.target_law.specs.Laws.{Laws}
 use Rattle.target_law.specs.Proper.{IsProperAsk, IsCoreOf}
 use Rattle.target_law.specs.Rules.{Rules, Owns}
@@ -19,7 +19,6 @@ use Rattle.target_law.proofs.Lists.{each_weaker, each_append}
 use Rattle.violation_watch.proofs.Cores.{run_rises}
 use Rattle.violation_watch.proofs.Early.{run}
 use Rattle.violation_watch.proofs.Lists.{each_both}
-use Rattle.pacing.specs.Pieces.{ticks_of}
 
 module _ {Inner Chan : Type 0} (rules : Rules Inner Chan) where
   pub ticks_same : (t u j k : ℕ) (core : CoreValue Inner) → t ≡ u → j ≡ k → ticks_of rules t j core ≡ ticks_of rules u k core

@@ -10,7 +10,7 @@ use Rattle.slack_base.specs.declared.messages.Post.{Post}
 use Rattle.slack_base.specs.declared.stamps.Id.{Id}
 use Rattle.slack_base.specs.Inboxes.{CoreValue, with_put}
 use Rattle.target_law.specs.Alone.{taking}
-use Rattle.target_law.specs.Cycles.{StateValue, changed_at, tick_of, through}
+use Rattle.target_law.specs.Cycles.{StateValue, changed_at, ticks_of, through}
 use Rattle.target_law.specs.Rules.{Rules}
 use Rattle.target_law.specs.Served.{AreRising}
 
@@ -43,16 +43,8 @@ module _ {Inner Chan : Type 0} where
   history start k w = record { start = start; len = k; served = w.served; clashes = w.clashes; sent = map (λ lane. lane.taken) w.lanes }
 
 module _ {Inner Chan : Type 0} (rules : Rules Inner Chan) where
-  -- a core by itself through k cycles from clock t, with no new post: the core after them, and the asks that it sends, in
-  -- the order in which it sends them
-  abbrev pub ticks_of : (t k : ℕ) → CoreValue Inner → CoreValue Inner × List Ask
-  ticks_of t zero core = (core, [])
-  ticks_of t (suc k) core =
-      let now = tick_of rules t core in
-      let rest = ticks_of (t + 1) k now.0 in
-      (rest.0, now.1 ++ rest.1)
-
-  -- the same of a lane
+  -- a lane whose core ticks by itself through k cycles from clock t, with no new post: it after them, and the asks that it
+  -- sends
   abbrev pub lane_ticked : (t k : ℕ) → LaneValue Inner → LaneValue Inner × List Ask
   lane_ticked t k lane = (record lane { core = (ticks_of t k lane.core).0 }, (ticks_of t k lane.core).1)
 

@@ -4,7 +4,7 @@ use Rattle.std.specs.List.{flat_map, list_all}
 use Rattle.slack_base.specs.declared.messages.Ask.{Ask}
 use Rattle.slack_base.specs.declared.messages.Post.{Post}
 use Rattle.slack_base.specs.declared.stamps.Id.{Id}
-use Rattle.slack_base.specs.Inboxes.{CoreValue, with_put, tick_by}
+use Rattle.slack_base.specs.Inboxes.{CoreValue, with_put, tick_by, ticks_by}
 use Rattle.target_law.specs.Rules.{Rules}
 
 pub record StateValue (Inner Chan : Type 0) : Type 0 where
@@ -40,6 +40,10 @@ module _ {Inner Chan : Type 0} (rules : Rules Inner Chan) where
   -- a tick at clock t: the core after it, and the asks that it sends. It takes the due posts out of the inbox
   abbrev pub tick_of : ℕ → CoreValue Inner → CoreValue Inner × List Ask
   tick_of t core = tick_by rules.tick t core
+
+  -- k ticks from clock t on, one after another, with no new post
+  abbrev pub ticks_of : (t k : ℕ) → CoreValue Inner → CoreValue Inner × List Ask
+  ticks_of t k core = ticks_by rules.tick t k core
 
   abbrev pub ticked : ℕ → List (CoreValue Inner) → List (CoreValue Inner)
   ticked t cores = map (λ core. (tick_of t core).0) cores

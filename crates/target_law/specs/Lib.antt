@@ -1,3 +1,4 @@
+pub mod Advances
 pub mod Alone
 pub mod AloneLaw
 pub mod Cycles

@@ -1,8 +1,9 @@
 //! What a machine of cores and channels brings along.
-ghost use Rattle.std.specs.Prelude.{◌≡◌, ◌==◌, ◌&&◌, ◌≤◌, ◌++◌, None, Some, IfNone, IfSome, OnOk};
+ghost use Rattle.std.specs.Prelude.{◌≡◌, ◌==◌, ◌&&◌, ◌-◌, ◌<◌, ◌≤◌, ◌++◌, [], None, Some, IfNone, IfOk, IfSome, OnOk};
 ghost use Rattle.slack_base.specs.declared.bounds.TheConstants.{TOP};
 ghost use Rattle.slack_base.specs.Inboxes.{with_put};
-ghost use Rattle.target_law.specs.Cycles.{tick_of};
+ghost use Rattle.target_law.specs.Advances.{MayAdvance};
+ghost use Rattle.target_law.specs.Cycles.{tick_of, ticks_of};
 ghost use Rattle.target_law.specs.Laws.{Laws};
 ghost use Rattle.target_law.specs.Proper.{IsProperAsk, IsPostTo, IsCore, IsChan, IsChanOf};
 ghost use Rattle.target_law.specs.Rules.{Rules, Owns};
@@ -75,6 +76,36 @@ pub trait Target {
         ensures core { OnOk result (values.core core.new ≡ (tick_of (rules self.now) cycle (values.core core.old)).0) }
         ensures asks { OnOk result (out.new ≡ out.old ++ (tick_of (rules self.now) cycle (values.core core.old)).1) }
         ensures saved { OnOk result (values.saved_core core.new ≡ values.saved_core core.old) };
+
+    /// Ticks a core from a clock on, one after another, with no new post: up to `until`, or up to a tick in which it sends
+    /// something, which is then the last. The asks are appended, and the clock that comes next is handed back. A machine
+    /// may go over ticks in which nothing happens at once; where it does not say how, each call is one tick.
+    fn advance(
+        &self,
+        core: &mut Self::Core,
+        from: u64,
+        until: u64,
+        out: &mut AskList,
+    ) -> Result<u64, OutOfMemory>
+        requires order { from < until }
+        requires clock { until ≤ TOP }
+        requires core { IsCore (rules self.now) (owns self.now) (values.core core.old) }
+        ensures reached { IfOk result (λ clock. MayAdvance (rules self.now) from until (values.core core.old) clock) }
+        ensures core { IfOk result (λ clock. values.core core.new ≡ (ticks_of (rules self.now) from (clock - from) (values.core core.old)).0) }
+        ensures asks { IfOk result (λ clock. out.new ≡ out.old ++ (ticks_of (rules self.now) from (clock - from) (values.core core.old)).1) }
+        ensures saved { OnOk result (values.saved_core core.new ≡ values.saved_core core.old) }
+    {
+        self.tick(core, from, out)?;
+        Ok(from + 1)
+    }
+
+    /// For how many ticks from a clock on a core surely sends nothing, if no post comes in. It takes no memory.
+    fn quiet(&self, core: &Self::Core, from: u64) -> u64
+        requires { IsCore (rules self.now) (owns self.now) (values.core core.now) }
+        ensures { (ticks_of (rules self.now) from result (values.core core.now)).1 ≡ [] }
+    {
+        0
+    }
 
     /// Serves an ask of this channel. The posts that it causes are appended.
     fn serve(&self, chan: &mut Self::Chan, ask: &Ask, out: &mut PostList) -> Result<(), OutOfMemory>

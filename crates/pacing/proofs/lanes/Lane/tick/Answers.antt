@@ -1,10 +1,9 @@
 use Rattle.std.proofs.Common.{◌≤◌, ◌∙◌, ◌+◌, ◌-◌, ◌++◌, sym, ap, subst, arith, refl}
 use Rattle.slack_base.specs.declared.bounds.TheConstants.{TOP}
-use Rattle.target_law.specs.Cycles.{tick_of}
+use Rattle.target_law.specs.Cycles.{tick_of, ticks_of}
 use Rattle.target_law.specs.Proper.{IsCore}
 use Rattle.target_law.proofs.Cores.{ticked_core}
 use Rattle.target_law.proofs.Loops.{core_at}
-use Rattle.pacing.specs.Pieces.{ticks_of}
 use Rattle.pacing.proofs.Stored.{ticked_last}
 use Rattle.pacing.proofs.Ticks.{ticks_same, ticks_next}
 use Rattle.pacing.proofs.lanes.Lane.tick.Goals as goal

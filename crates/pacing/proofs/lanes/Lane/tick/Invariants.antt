@@ -1,6 +1,5 @@
 use Rattle.std.proofs.Common.{◌≡◌, ◌+◌, ◌-◌, ◌++◌}
 use Rattle.target_law.specs.Proper.{IsCore}
-use Rattle.pacing.specs.Pieces.{ticks_of}
 use Rattle.pacing.proofs.lanes.Lane.tick.Given as goal
 
 -- the ticks that are left lead from here to where all of them led from the first
