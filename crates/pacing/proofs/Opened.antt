@@ -18,7 +18,7 @@ use Rattle.target_law.proofs.Serving.{length-through, through_are, through_posts
 use Rattle.pacing.specs.Open.{IsLaneOf, IsOpen}
 use Rattle.pacing.specs.Pieces.{LaneValue, UnderwayValue, lane_begun, begun, lane_ticked, lane_taking, all_taking, pieced, IsPiece, closed}
 use Rattle.pacing.proofs.Shares.{served_proper}
-use Rattle.pacing.proofs.Ticks.{ticks_core}
+use Rattle.target_law.proofs.Ticking.{ticks_core}
 
 module _ {Inner Chan : Type 0} (rules : Rules Inner Chan) where
   pub length-taking : (clock : ℕ) (lanes : List (LaneValue Inner)) (posts : List Post) → length (all_taking rules clock lanes posts) ≡ length lanes

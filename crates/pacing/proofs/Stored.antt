@@ -4,7 +4,7 @@ use Rattle.std.specs.List.{flat_map, All, AllByRecursion as Each}
 use Rattle.std.specs.List.Sorted.{IsPermutation, IsSortedByKey}
 use Rattle.std.proofs.lemmas.List.Elements.{All-from_recursion}
 use Rattle.std.proofs.Math.Seq.{drop-cons}
-use Rattle.std.proofs.lemmas.List.{append-nil, length-map, map-set}
+use Rattle.std.proofs.lemmas.List.{length-map, map-set}
 use Rattle.slack_base.specs.declared.histories.Taken.{Taken}
 use Rattle.slack_base.specs.declared.messages.Ask.{Ask}
 use Rattle.slack_base.specs.Inboxes.{CoreValue}
@@ -33,14 +33,14 @@ use Rattle.pacing.proofs.Orders.{rising_sorted}
 use Rattle.pacing.proofs.Shares.{all_distinct, served_proper}
 
 module _ {Inner Chan : Type 0} (rules : Rules Inner Chan) where
-  -- once no tick is left
-  pub ticked_last : (t n u k : ℕ) (first last : CoreValue Inner) (before taken : List Taken) (asks : List Ask) → n ≡ 0 → taken ≡ before
-      → (ticks_of rules t n last).0 ≡ (ticks_of rules u k first).0 → asks ++ (ticks_of rules t n last).1 ≡ (ticks_of rules u k first).1
-      → (record { core = last; taken = taken }, asks) ≡ lane_ticked rules u k (record { core = first; taken = before })
-  ticked_last t n u k first last before taken asks none same value sent =
-      let at : ticks_of rules t n last ≡ (last, []) = ap (λ m. ticks_of rules t m last) none in
-      let core : last ≡ (ticks_of rules u k first).0 = sym (ap (λ r. r.0) at) ∙ value in
-      let all : asks ≡ (ticks_of rules u k first).1 = sym (append-nil asks) ∙ ap (λ r. asks ++ r.1) (sym at) ∙ sent in
+  -- the lane of a core that ticked through k cycles
+  pub ticked_through : (t j k : ℕ) (first last : CoreValue Inner) (before taken : List Taken) (cleared asks : List Ask) → j ≡ k → taken ≡ before
+      → last ≡ (ticks_of rules t j first).0 → cleared ≡ [] → asks ≡ cleared ++ (ticks_of rules t j first).1
+      → (record { core = last; taken = taken }, asks) ≡ lane_ticked rules t k (record { core = first; taken = before })
+  ticked_through t j k first last before taken cleared asks long same value none sent =
+      let whole = ap (λ n. ticks_of rules t n first) long in
+      let core : last ≡ (ticks_of rules t k first).0 = value ∙ ap (λ r. r.0) whole in
+      let all : asks ≡ (ticks_of rules t k first).1 = sent ∙ ap (λ xs. xs ++ (ticks_of rules t j first).1) none ∙ ap (λ r. r.1) whole in
       λ i. (record { core = core i; taken = same i }, all i)
 
 -- what is so of each item is so of what is seen of it

@@ -1,5 +1,5 @@
 -- A core by itself through some cycles: step by step, and what it sends.
-use Rattle.std.proofs.Common.{◌≡◌, ◌∙◌, ℕ, ◌+◌, ◌<◌, ◌≤◌, zero, suc, List, [], ◌++◌, refl, sym, ap, subst, arith, append_assoc}
+use Rattle.std.proofs.Common.{◌≡◌, ℕ, ◌+◌, ◌<◌, ◌≤◌, zero, suc, List, ◌++◌, refl, sym, ap, subst, arith, append_assoc}
 use Rattle.std.specs.List.{AllByRecursion as Each}
 use Rattle.std.proofs.lemmas.List.{append-nil}
 use Rattle.std.proofs.lemmas.List.Elements.{recursion_from_All}
@@ -21,24 +21,6 @@ use Rattle.violation_watch.proofs.Early.{run}
 use Rattle.violation_watch.proofs.Lists.{each_both}
 
 module _ {Inner Chan : Type 0} (rules : Rules Inner Chan) where
-  pub ticks_same : (t u j k : ℕ) (core : CoreValue Inner) → t ≡ u → j ≡ k → ticks_of rules t j core ≡ ticks_of rules u k core
-  ticks_same t u j k core e f = λ i. ticks_of rules (e i) (f i) core
-
-  -- one tick further: what is left leads to the same
-  pub ticks_next : (t u j n : ℕ) (core new : CoreValue Inner) (asks more : List Ask) → u ≡ t + 1 → j ≡ suc n → new ≡ (tick_of rules t core).0 → more ≡ asks ++ (tick_of rules t core).1
-      → ((ticks_of rules u n new).0 ≡ (ticks_of rules t j core).0) × (more ++ (ticks_of rules u n new).1 ≡ asks ++ (ticks_of rules t j core).1)
-  ticks_next t u j n core new asks more u_is j_is new_is more_is =
-      let now = tick_of rules t core in
-      let same : ticks_of rules u n new ≡ ticks_of rules (t + 1) n now.0 = λ i. ticks_of rules (u_is i) n (new_is i) in
-      let whole : ticks_of rules t (suc n) core ≡ ticks_of rules t j core = ap (λ k. ticks_of rules t k core) (sym j_is) in (
-        ap (λ r. r.0) same ∙ ap (λ r. r.0) whole,
-        ap (λ r. more ++ r.1) same ∙ ap (λ xs. xs ++ (ticks_of rules (t + 1) n now.0).1) more_is
-            ∙ append_assoc asks now.1 (ticks_of rules (t + 1) n now.0).1 ∙ ap (λ r. asks ++ r.1) whole,
-      )
-
-  pub ticks_none : (t j : ℕ) (core : CoreValue Inner) → j ≡ 0 → ticks_of rules t j core ≡ (core, [])
-  ticks_none t j core e = ap (λ n. ticks_of rules t n core) e
-
   ticks-run : (t k : ℕ) (core : CoreValue Inner) → ticks_of rules t k core ≡ run rules t k core
   ticks-run t zero core = refl
   ticks-run t (suc k) core = let now = tick_of rules t core in ap (λ (rest : CoreValue Inner × List Ask). (rest.0, now.1 ++ rest.1)) (ticks-run (t + 1) k now.0)
@@ -65,10 +47,6 @@ module _ {Inner Chan : Type 0} (rules : Rules Inner Chan) where
     pub high : (id_of ask).cycle < e
 
   module _ (owns : Owns Inner Chan) (laws : Laws rules owns) where
-    pub ticks_core : (t k c : ℕ) (core : CoreValue Inner) → t + k ≤ TOP → IsCoreOf rules owns c core → IsCoreOf rules owns c (ticks_of rules t k core).0
-    ticks_core t zero c core low is = is
-    ticks_core t (suc k) c core low is = ticks_core (t + 1) k c (tick_of rules t core).0 (omega arith) (ticked_core rules owns laws t c core (omega arith) is)
-
     pub ticks_asks : (t k e c : ℕ) (core : CoreValue Inner) → e ≡ t + k → e ≤ TOP → IsCoreOf rules owns c core → Each (IsAskOf t e c) (ticks_of rules t k core).1
     ticks_asks t zero e c core end low is = tt
     ticks_asks t (suc k) e c core end low is =

@@ -1,6 +1,6 @@
 -- Drifts in pieces: every core ticks alone through a piece, the asks of the piece are served in the order of their ids, and
 -- their posts are taken at its end.
-use Rattle.std.specs.Prelude.{◌≡◌, ℕ, ◌+◌, ◌-◌, ◌<◌, List, [], ◌∷◌, ◌++◌, map, min, zero, suc, Option}
+use Rattle.std.specs.Prelude.{◌≡◌, ℕ, ◌+◌, ◌-◌, ◌<◌, List, [], ◌∷◌, ◌++◌, map, min, Option}
 use Rattle.std.specs.List.{flat_map}
 use Rattle.std.specs.List.Sorted.{IsPermutation}
 use Rattle.slack_base.specs.declared.histories.Drift.{Drift}
@@ -46,7 +46,7 @@ module _ {Inner Chan : Type 0} (rules : Rules Inner Chan) where
   -- a lane whose core ticks by itself through k cycles from clock t, with no new post: it after them, and the asks that it
   -- sends
   abbrev pub lane_ticked : (t k : ℕ) → LaneValue Inner → LaneValue Inner × List Ask
-  lane_ticked t k lane = (record lane { core = (ticks_of t k lane.core).0 }, (ticks_of t k lane.core).1)
+  lane_ticked t k lane = (record lane { core = (ticks_of rules t k lane.core).0 }, (ticks_of rules t k lane.core).1)
 
   -- the asks of all cores
   abbrev pub asks_through : (t k : ℕ) → List (LaneValue Inner) → List Ask

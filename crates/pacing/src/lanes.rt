@@ -4,7 +4,7 @@ ghost use Rattle.std.specs.Prelude.{◌≡◌};
 use drive_script::lanes::touch;
 use slack_base::{AskList, OutOfMemory, Post, Taken, TakenList};
 use std::alloc::Global;
-use target_law::Target;
+use target_law::{Target, advance_to};
 
 /// A core, the asks that it sent in its last piece, and the posts that it took so far.
 #[derive(Drop)]
@@ -45,9 +45,7 @@ impl<C: Send + Drop> Lane<C> {
         ensures { OnOk result (ticked_of T.values self.new ≡ lane_ticked (T.rules target.now) from len (lane_of T.values self.old)) }
     {
         self.asks.clear();
-        for k in 0..len {
-            target.tick(&mut self.core, from + k, &mut self.asks)?;
-        }
+        advance_to(target, &mut self.core, from, from + len, &mut self.asks)?;
         Ok(())
     }
 

@@ -20,4 +20,5 @@ pub mod Running
 pub mod Serving
 pub mod Sights
 pub mod Stored
+pub mod Ticking
 pub mod Ways

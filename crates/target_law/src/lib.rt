@@ -1,6 +1,7 @@
 //! Targets: what a machine of cores and channels is, its cycles, and its runs from checkpoint to checkpoint.
 #![tactic(auto)]
 
+pub mod advances;
 pub mod cycles;
 pub mod in_sight;
 pub mod laws;
@@ -10,6 +11,7 @@ pub mod targets;
 pub mod ticks;
 pub mod trio;
 
+pub use advances::advance_to;
 pub use cycles::{cycle, run_to, stopped};
 pub use in_sight::InSight;
 pub use runs::run;
