@@ -3,6 +3,7 @@ use Rattle.std.proofs.Common.{◌≡◌, ◌∙◌, ℕ, ◌+◌, ◌-◌, ◌<�
 use Rattle.std.specs.List.{flat_map, AllByRecursion as Each}
 use Rattle.std.proofs.lemmas.Bool.Decides.{nat_tests}
 use Rattle.slack_base.specs.declared.bounds.TheConstants.{TOP}
+use Rattle.slack_base.specs.declared.histories.Drift.{Drift}
 use Rattle.slack_base.specs.declared.histories.Taken.{Taken}
 use Rattle.slack_base.specs.declared.messages.Ask.{Ask}
 use Rattle.slack_base.specs.declared.stamps.Id.{Id}
@@ -11,7 +12,7 @@ use Rattle.slack_base.specs.Stamps.{is_above}
 use Rattle.target_law.specs.Cycles.{StateValue, seen_at, through}
 use Rattle.target_law.specs.Laws.{Laws}
 use Rattle.target_law.specs.Numbered.{AllNumbered}
-use Rattle.target_law.specs.Proper.{IsProperAsk, IsChanOf}
+use Rattle.target_law.specs.Proper.{IsProper, IsProperAsk, IsChanOf}
 use Rattle.target_law.specs.Rules.{Rules, Owns}
 use Rattle.target_law.specs.Served.{AreRising, IsAbove, Pairwise}
 use Rattle.target_law.proofs.Ids.{later_above}
@@ -26,8 +27,8 @@ use Rattle.violation_watch.proofs.Peel.{closed_all}
 use Rattle.violation_watch.proofs.Lists.{each_filter, pairwise_filter, pairwise_last, numbered_both, numbered_map_from}
 use Rattle.pacing.specs.Laws.{AllQuiet}
 use Rattle.pacing.specs.Open.{IsOpen}
-use Rattle.pacing.specs.Pieces.{LaneValue, UnderwayValue, begun, lane_begun, lane_ticked, pieced, ByPieces, ended, piece}
-use Rattle.pacing.proofs.Ending.{last_pieces}
+use Rattle.pacing.specs.Pieces.{LaneValue, UnderwayValue, begun, lane_begun, lane_ticked, pieced, history, closed, IsPiece, ByPieces, ended, piece, IsPieces}
+use Rattle.pacing.proofs.Ending.{clock_piece, last_pieces}
 use Rattle.pacing.proofs.Opened.{open_begun, open_piece, taking_keeps}
 use Rattle.pacing.proofs.Shares.{IsAskFrom, served_asks}
 
@@ -133,10 +134,14 @@ module _ {Inner Chan : Type 0} (rules : Rules Inner Chan) (owns : Owns Inner Cha
   orderly_begun : (s : StateValue Inner Chan) → IsOrderly (begun s)
   orderly_begun s = record { rising = tt; earlier = tt; timely = numbered_map (λ place lane. IsInTime lane) lane_begun 0 s.cores (numbered_any 0 (λ c core low. tt) s.cores) }
 
-  orderly_pieced : (k : ℕ) (w : UnderwayValue Inner Chan) (asks : List Ask) → k ≤ rules.lookahead → IsOpen rules owns w → Each (IsAskFrom rules owns laws w.clock (w.clock + k) 0) asks → AreRising asks
-      → IsOrderly w → IsOrderly (pieced rules k asks w)
+  -- the ask is sent so late that its posts are not due before this clock
+  abbrev pub IsSoon : (clock : ℕ) → Ask → Type 0
+  IsSoon clock x = clock ≤ (id_of x).cycle + rules.lookahead
+
+  orderly_pieced : (k : ℕ) (w : UnderwayValue Inner Chan) (asks : List Ask) → Each (IsSoon (w.clock + k)) asks → IsOpen rules owns w → Each (IsAskFrom rules owns laws w.clock (w.clock + k) 0) asks
+      → AreRising asks → IsOrderly w → IsOrderly (pieced rules k asks w)
   unfolding pieced
-  orderly_pieced k w asks short here from rise is =
+  orderly_pieced k w asks soon here from rise is =
       let posts = (through rules w.chans asks).posts in
       record {
         rising =
@@ -146,8 +151,8 @@ module _ {Inner Chan : Type 0} (rules : Rules Inner Chan) (owns : Owns Inner Cha
         timely = taking_keeps rules (λ place lane. IsInTime lane) (λ p. w.clock + k ≤ p.due) (w.clock + k)
             (λ c lane p due to timely. each_append (λ x. x.clock ≤ x.post.due) lane.taken (_ ∷ []) timely (due, tt))
             (map (λ lane. (lane_ticked rules w.clock k lane).0) w.lanes) posts
-            (through_posts rules owns laws (λ x. w.clock ≤ (id_of x).cycle) (λ p. w.clock + k ≤ p.due) (λ x p low of. let due = of.due in omega arith)
-            w.chans asks here.chans (each_weaker (λ x of. of.proper) asks from) (each_weaker (λ x of. of.low) asks from))
+            (through_posts rules owns laws (IsSoon (w.clock + k)) (λ p. w.clock + k ≤ p.due) (λ x p low of. let due = of.due in omega arith)
+            w.chans asks here.chans (each_weaker (λ x of. of.proper) asks from) soon)
             (numbered_map (λ place lane. IsInTime lane) (λ lane. (lane_ticked rules w.clock k lane).0) 0 w.lanes is.timely);
       }
 
@@ -156,19 +161,45 @@ module _ {Inner Chan : Type 0} (rules : Rules Inner Chan) (owns : Owns Inner Cha
   orderly_last quantum end w _ top short here is (piece {v = v} {e = e} low one rest) =
       let k = min quantum (end - w.clock) in
       let within : w.clock + k ≤ TOP = omega arith in
-      let next : IsOrderly v =
-      subst IsOrderly (sym one.after)
-      (orderly_pieced k w one.asks (omega arith) here (served_asks rules owns laws w.clock k (w.clock + k) refl within w.lanes here.lanes one.asks one.sent one.rising) one.rising is) in
+      let from = served_asks rules owns laws w.clock k (w.clock + k) refl within w.lanes here.lanes one.asks one.sent one.rising in
+      let soon = each_weaker (λ x of. let low = of.low in omega arith) one.asks from in
+      let next : IsOrderly v = subst IsOrderly (sym one.after) (orderly_pieced k w one.asks soon here from one.rising is) in
       orderly_last quantum end v e top short (open_piece rules owns laws k w v within here one) next rest
 
-  pub all_quiet : AllQuiet rules owns
-  all_quiet quantum k s d e start top short is =
+  -- where all went in order and in time, nothing is recorded
+  quiet_end : (quantum k : ℕ) (s : StateValue Inner Chan) (d : Drift) (e : StateValue Inner Chan) → IsProper rules owns s → s.clock + k ≤ TOP → (is : IsPieces rules quantum k s d e)
+      → IsOrderly is.last → scan_of rules d ≡ []
+  quiet_end quantum k s d e start top is order =
       let last = last_pieces rules owns laws s quantum k d e start top is in
       let w = is.last in
-      let order = orderly_last quantum (s.clock + k) (begun s) w top short (open_begun rules owns laws s start) (orderly_begun s) is.pieces in
       let asks : all_serve_entries rules [] w.clashes w.served ≡ [] =
       ap (λ hs. all_serve_entries rules [] hs w.served) last.under.clashes
       ∙ no_serve s.chans start.chans (closed_all rules owns laws s start) [] w.served last.under.proper order.rising in
       ap (scan_of rules) is.drift
       ∙ ap (λ vs. vs ++ all_take_entries 0 (s.clock + k) (map (λ lane. lane.taken) w.lanes)) asks
       ∙ no_takes 0 (s.clock + k) 0 w.lanes order.timely
+
+  pub all_quiet : AllQuiet rules owns
+  all_quiet quantum k s d e start top short is =
+      quiet_end quantum k s d e start top is (orderly_last quantum (s.clock + k) (begun s) is.last top short (open_begun rules owns laws s start) (orderly_begun s) is.pieces)
+
+  -- a drift in one piece
+  pub in_one : (k : ℕ) (s : StateValue Inner Chan) (w : UnderwayValue Inner Chan) → 1 ≤ k → IsPiece rules k (begun s) w → IsPieces rules k k s (history s.clock k w) (closed rules w)
+  in_one k s w some one =
+      let whole : k ≡ min k (s.clock + k - s.clock) = omega arith in
+      record {
+        last = w;
+        pieces = piece (omega arith) (subst (λ n. IsPiece rules n (begun s) w) whole one) (ended (clock_piece rules k (begun s) w one));
+        drift = refl;
+        end = refl;
+      }
+
+  -- the same of one piece, however long, whose asks are sent so late that their posts are taken in time
+  pub one_quiet : (k : ℕ) (s : StateValue Inner Chan) (w : UnderwayValue Inner Chan) → 1 ≤ k → IsProper rules owns s → s.clock + k ≤ TOP → (one : IsPiece rules k (begun s) w)
+      → Each (IsSoon (s.clock + k)) one.asks → scan_of rules (history s.clock k w) ≡ []
+  unfolding in_one
+  one_quiet k s w some start top one soon =
+      let here = open_begun rules owns laws s start in
+      let from = served_asks rules owns laws s.clock k (s.clock + k) refl top (begun s).lanes here.lanes one.asks one.sent one.rising in
+      quiet_end k k s (history s.clock k w) (closed rules w) start top (in_one k s w some one)
+      (subst IsOrderly (sym one.after) (orderly_pieced k (begun s) one.asks soon here from one.rising (orderly_begun s)))
