@@ -27,7 +27,7 @@ fn gather<C: Drop>(lanes: &[Lane<C>], asks: &mut Vec<Ask>) -> Result<(), OutOfMe
 }
 
 /// Puts asks into the order of their ids.
-fn sort_by_id(asks: &mut [Ask])
+pub fn sort_by_id(asks: &mut [Ask])
     ensures same { IsPermutation asks.old asks.new }
     ensures sorted { IsSortedByKey id_of id_cmp asks.new }
 {

@@ -59,7 +59,7 @@ fn tick_all<C: Send + Drop, T: Target<Core = C>>(
 }
 
 /// Serves asks one after another, each on its channel. The posts are appended.
-fn serve_all<D: Send + Drop, T: Target<Chan = D>>(
+pub fn serve_all<D: Send + Drop, T: Target<Chan = D>>(
     target: &T,
     chans: &mut [D],
     asks: &[Ask],
@@ -79,7 +79,7 @@ fn serve_all<D: Send + Drop, T: Target<Chan = D>>(
 }
 
 /// Closes each channel.
-fn close_all<D: Send + Drop, T: Target<Chan = D>>(target: &T, chans: &mut [D])
+pub fn close_all<D: Send + Drop, T: Target<Chan = D>>(target: &T, chans: &mut [D])
     requires { AllNumbered (IsChanOf (T.rules target.now) (T.owns target.now)) 0 (map T.values.chan chans.old) }
     ensures { map T.values.chan chans.new ≡ map (T.rules target.now).close (map T.values.chan chans.old) }
 {
@@ -100,7 +100,7 @@ fn close_after<D: Send + Drop, T: Target<Chan = D>>(target: &T, chans: &mut [D],
 }
 
 /// Puts posts into the inboxes of the cores that they are addressed to, one after another.
-fn deliver_all<C: Send + Drop, T: Target<Core = C>>(
+pub fn deliver_all<C: Send + Drop, T: Target<Core = C>>(
     target: &T,
     cores: &mut [C],
     posts: &[Post],

@@ -12,7 +12,7 @@ pub mod ticks;
 pub mod trio;
 
 pub use advances::advance_to;
-pub use cycles::{cycle, run_to, stopped};
+pub use cycles::{close_all, cycle, deliver_all, run_to, serve_all, stopped};
 pub use in_sight::InSight;
 pub use runs::run;
 pub use states::{Bounded, Drifted, State};
