@@ -19,13 +19,14 @@ ghost use Rattle.target_law.specs.Ticks.{cycles_of};
 use drift_run::{Pace, bounded_run};
 use drive_script::script_run;
 use io_edge::Gate;
+use leap_run::run;
 use pacing::quantum_run;
 use sim_words::Mode;
 use slack_base::{Config, NoteList, OutOfMemory, StepList};
 use spec_run::{Run, Speculated, speculate};
 use std::alloc::Global;
 use std::thread::Threads;
-use target_law::{Bounded, State, Target, run};
+use target_law::{Bounded, State, Target};
 
 /// A run from clock 0 in a mode, by these steps if it is of a given interleaving.
 pub fn run_in_mode<R: Threads + Sync, T: Target + Sync, G: Gate + Sync>(
@@ -100,6 +101,7 @@ pub fn run_cycle_by_cycle<T: Target>(
     requires top { limit ≤ TOP }
     requires interval { 1 ≤ interval }
     requires proper { IsProper (T.rules target.now) (T.owns target.now) (state_of T.values state) }
+    requires punctual { IsPunctual (state_of T.values state) }
     ensures ends { IfOk result (λ r. Ends (T.rules target.now) interval limit (IsExact (T.rules target.now)) (state_of T.values state) r.notes (state_of T.values r.end)) }
     ensures exact { IfOk result (λ r. IsExactEnd (T.rules target.now) interval limit (state_of T.values state) r.notes (state_of T.values r.end)) }
     ensures proper { IfOk result (λ r. IsProper (T.rules target.now) (T.owns target.now) (state_of T.values r.end)) }

@@ -1,21 +1,18 @@
 -- A leap is a drift in one piece of which the monitors record nothing, and so as many cycles.
-use Rattle.std.proofs.Common.{◌≡◌, ◌∙◌, ℕ, ◌+◌, ◌≤◌, zero, suc, List, [], ◌∷◌, ◌++◌, map, refl, sym, ap, subst, arith}
-use Rattle.std.specs.List.{flat_map, AllByRecursion as Each}
+use Rattle.std.proofs.Common.{◌≡◌, ◌∙◌, ℕ, ◌+◌, zero, suc, List, [], ◌∷◌, ◌++◌, map, refl, sym, ap, subst, arith}
 use Rattle.std.specs.List.Sorted.{IsPermutation}
-use Rattle.slack_base.specs.declared.bounds.TheConstants.{TOP}
 use Rattle.slack_base.specs.declared.messages.Ask.{Ask}
 use Rattle.slack_base.specs.declared.messages.Post.{Post}
 use Rattle.slack_base.specs.Inboxes.{CoreValue, with_put}
-use Rattle.target_law.specs.Cycles.{StateValue, ticks_of, through, delivered, changed_at, lockstep}
+use Rattle.target_law.specs.Cycles.{StateValue, ticks_of, through, delivered, changed_at}
 use Rattle.target_law.specs.Laws.{Laws}
-use Rattle.target_law.specs.Proper.{IsProper, IsPunctual}
 use Rattle.target_law.specs.Rules.{Rules, Owns}
 use Rattle.violation_watch.proofs.Join.{complete}
-use Rattle.pacing.specs.Pieces.{LaneValue, UnderwayValue, begun, lane_begun, lane_ticked, lane_taking, all_taking, asks_through, pieced, history, closed, IsPiece}
+use Rattle.pacing.specs.Pieces.{LaneValue, begun, lane_begun, lane_ticked, lane_taking, all_taking, asks_through, pieced, history, closed, IsPiece}
 use Rattle.pacing.proofs.Ending.{clock_piece, pieces_drift}
 use Rattle.pacing.proofs.Quiet.{in_one, one_quiet}
 use Rattle.leap_run.specs.Laws.{AllLeaps}
-use Rattle.leap_run.specs.Leaps.{advanced, asks_in, leapt, AreOfLeap}
+use Rattle.leap_run.specs.Leaps.{advanced, asks_in, leapt}
 
 module _ {Inner Chan : Type 0} (rules : Rules Inner Chan) where
   abbrev core_of : LaneValue Inner → CoreValue Inner
@@ -26,7 +23,7 @@ module _ {Inner Chan : Type 0} (rules : Rules Inner Chan) where
   lanes_cores t k [] = refl
   lanes_cores t k (core ∷ cores) = ap (λ xs. (ticks_of rules t k core).0 ∷ xs) (lanes_cores t k cores)
 
-  lanes_asks : (t k : ℕ) (cores : List (CoreValue Inner)) → asks_through rules t k (map lane_begun cores) ≡ asks_in rules t k cores
+  pub lanes_asks : (t k : ℕ) (cores : List (CoreValue Inner)) → asks_through rules t k (map lane_begun cores) ≡ asks_in rules t k cores
   lanes_asks t k [] = refl
   lanes_asks t k (core ∷ cores) = ap (λ xs. (ticks_of rules t k core).1 ++ xs) (lanes_asks t k cores)
 

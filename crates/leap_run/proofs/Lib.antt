@@ -1,1 +1,4 @@
+pub mod Exchanging
 pub mod Leaping
+pub mod Quieting
+pub mod Reaching

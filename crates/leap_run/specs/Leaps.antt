@@ -1,10 +1,11 @@
 -- Several cycles gone over at once.
-use Rattle.std.specs.Prelude.{◌≡◌, ℕ, ◌+◌, ◌≤◌, List, [], map, All}
+use Rattle.std.specs.Prelude.{◌≡◌, ℕ, ◌+◌, ◌≤◌, List, [], map}
 use Rattle.std.specs.List.{flat_map, AllByRecursion as Each}
-use Rattle.std.specs.List.Sorted.{IsPermutation}
+use Rattle.std.specs.List.Sorted.{IsPermutation, IsSortedByKey}
 use Rattle.slack_base.specs.declared.messages.Ask.{Ask}
 use Rattle.slack_base.specs.Inboxes.{CoreValue}
 use Rattle.slack_base.specs.Messages.{id_of}
+use Rattle.slack_base.specs.Stamps.{id_cmp}
 use Rattle.target_law.specs.Cycles.{StateValue, ticks_of, through, delivered}
 use Rattle.target_law.specs.Rules.{Rules}
 use Rattle.target_law.specs.Served.{AreRising}
@@ -19,8 +20,8 @@ module _ {Inner Chan : Type 0} (rules : Rules Inner Chan) where
   asks_in t k cores = flat_map (λ core. (ticks_of rules t k core).1) cores
 
   -- the core surely sends nothing in q cycles from clock t, if no post comes in
-  abbrev pub IsQuiet : (t q : ℕ) → CoreValue Inner → Type 0
-  IsQuiet t q core = (ticks_of rules t q core).1 ≡ []
+  pub record IsQuiet (t q : ℕ) (core : CoreValue Inner) : Type 0 where
+    pub silent : (ticks_of rules t q core).1 ≡ []
 
   -- k cycles gone over at once: each core ticks through them by itself; then these asks are served, each on its channel,
   -- all channels are closed, and the posts delivered
@@ -38,3 +39,11 @@ module _ {Inner Chan : Type 0} (rules : Rules Inner Chan) where
     pub sent : IsPermutation (asks_in s.clock k s.cores) asks
     pub rising : AreRising asks
     pub soon : Each (λ x. s.clock + k ≤ (id_of x).cycle + rules.lookahead) asks
+
+  -- these asks are served in some order of their ids, all channels are closed, and the posts are delivered
+  pub record IsExchanged (sent : List Ask) (cores : List (CoreValue Inner)) (chans : List Chan) (cores_after : List (CoreValue Inner)) (chans_after : List Chan) : Type 0 where
+    pub asks : List Ask
+    pub same : IsPermutation sent asks
+    pub sorted : IsSortedByKey id_of id_cmp asks
+    pub cores_are : cores_after ≡ delivered cores (through rules chans asks).posts
+    pub chans_are : chans_after ≡ map rules.close (through rules chans asks).chans

@@ -1,2 +1,3 @@
-pub mod Leaps
 pub mod Laws
+pub mod Leaps
+pub mod Views

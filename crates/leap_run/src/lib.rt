@@ -2,5 +2,12 @@
 #![tactic(auto)]
 
 pub mod laws;
+mod leaps;
+mod messages;
+pub mod runs;
 
 pub use laws::law_of_leaps;
+pub use runs::{run, run_to};
+
+#[cfg(test)]
+mod tests;

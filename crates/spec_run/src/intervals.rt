@@ -8,10 +8,11 @@ ghost use Rattle.spec_run.specs.Speculative.{IsSpeculated};
 use checkpoint::Checkpoint;
 use drift_run::{Pace, drift};
 use io_edge::Gate;
+use leap_run::run_to;
 use slack_base::{Interval, OutOfMemory};
 use std::alloc::Global;
 use std::thread::Threads;
-use target_law::{Drifted, State, Target, run_to};
+use target_law::{Drifted, State, Target};
 
 /// What an interval ended as: the state, and its note.
 #[derive(Drop)]

@@ -7,12 +7,13 @@ ghost use Rattle.slack_base.specs.declared.bounds.TheConstants.{TOP};
 
 use crate::{Run, Speculated, speculate};
 use io_edge::{Gate, NeverHold, Stop, StopGate, StopList};
+use leap_run::run;
 use slack_base::{Interval, OutOfMemory};
 use std::alloc::Global;
 use std::sync::atomic::Ordering;
 use std::test::Fail;
 use std::thread::Threads;
-use target_law::{State, Trio, TrioCore, run};
+use target_law::{State, Trio, TrioCore};
 
 /// A run of the small target from its start.
 fn speculated<R: Threads + Sync, G: Gate + Sync>(

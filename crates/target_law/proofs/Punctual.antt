@@ -9,7 +9,7 @@ use Rattle.target_law.proofs.Kept.{cycle_proper, cycle_punctual}
 use Rattle.target_law.proofs.Lockstep.{clock-lockstep}
 
 module _ {Inner Chan : Type 0} (rules : Rules Inner Chan) (owns : Owns Inner Chan) (laws : Laws rules owns) where
-  proper_after : (k : ℕ) (s : StateValue Inner Chan) → IsProper rules owns s → s.clock + k ≤ TOP → IsProper rules owns (lockstep rules s k)
+  pub proper_after : (k : ℕ) (s : StateValue Inner Chan) → IsProper rules owns s → s.clock + k ≤ TOP → IsProper rules owns (lockstep rules s k)
   unfolding lockstep
   proper_after zero s is low = is
   proper_after (suc k) s is low =

@@ -21,7 +21,7 @@ use Rattle.target_law.proofs.Lockstep.{state_path}
 use Rattle.target_law.proofs.Serving.{length-through}
 
 -- as many items as there were replace all of them
-replaced_all : {X : Type 0} (old new : List X) → length new ≡ length old → replaced old new ≡ new
+pub replaced_all : {X : Type 0} (old new : List X) → length new ≡ length old → replaced old new ≡ new
 replaced_all old new e =
     ap (λ rest. take (length old) (new ++ rest)) (drop_all (length new) old (omega arith))
     ∙ ap (take (length old)) (append-nil new)

@@ -4,7 +4,7 @@
 //! and so on. An ask at clock t is served in that cycle, and its post goes to the next core, which counts it at its tick
 //! of t + 2.
 
-use crate::{State, Trio, TrioCore, cycle, run, run_to, stopped};
+use crate::{State, Trio, TrioCore, run_to, stopped};
 use std::sync::atomic::Ordering;
 use std::test::Fail;
 
@@ -38,31 +38,5 @@ fn twenty_cycles(rt: HostRuntime) -> Result<(), Fail> {
     assert_eq!(rt; target.ticked.load(Ordering::SeqCst), 60);
     assert_eq!(rt; target.served.load(Ordering::SeqCst), 22);
     assert_eq!(rt; target.taken.load(Ordering::SeqCst), 22);
-    Ok(())
-}
-
-/// The fifth post is counted by core 1 at 10 (asked at 8), by core 2 at 14 (asked at 12) and by core 0 at 18 (asked at
-/// 16). So all have ended after the cycle of 18. Of the checkpoints 7, 14 and 21 the last is the first after that.
-#[test]
-fn a_run_to_its_stop(rt: HostRuntime) -> Result<(), Fail> {
-    let target = Trio::new();
-    let mut state = Trio::start(rt.alloc())?;
-    run(rt.alloc(), &target, &mut state, 7, 100)?;
-    assert_eq!(rt; state.clock, 21);
-    Ok(())
-}
-
-/// The limit comes before the ends of the cores; where it is reached, one cycle more is one cycle.
-#[test]
-fn a_run_to_its_limit(rt: HostRuntime) -> Result<(), Fail> {
-    let target = Trio::new();
-    let mut state = Trio::start(rt.alloc())?;
-    run(rt.alloc(), &target, &mut state, 7, 12)?;
-    assert_eq!(rt; state.clock, 12);
-    assert!(rt; !stopped(&target, &state));
-    run(rt.alloc(), &target, &mut state, 7, 12)?;
-    assert_eq!(rt; state.clock, 12);
-    cycle(rt.alloc(), &target, &mut state)?;
-    assert_eq!(rt; state.clock, 13);
     Ok(())
 }

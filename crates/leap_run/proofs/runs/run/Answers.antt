@@ -2,7 +2,7 @@ use Rattle.std.proofs.Common.{◌-◌, arith}
 use Rattle.target_law.specs.Views.{state_of}
 use Rattle.target_law.proofs.Lockstep.{lockstep_none}
 use Rattle.target_law.proofs.Running.{going_first, next_low, next_state, stops_here, stops_next, going_next}
-use Rattle.target_law.proofs.runs.run.Goals as goal
+use Rattle.leap_run.proofs.runs.run.Goals as goal
 
 pub loop-state-init : goal.loop-state-init
 loop-state-init g c =
@@ -14,7 +14,7 @@ loop-state-init g c =
       going = going_first rules c.args.interval c.args.limit s;
       state = lockstep_none rules s (clock - clock) (omega arith);
       proper = c.requires.proper;
-      punctual = λ is. is;
+      punctual = c.requires.punctual;
     }
 
 pub returns-then-stopped-clause-state : goal.returns-then-stopped-clause-state
@@ -51,7 +51,7 @@ loop-state-preserved g c =
       state = next_state rules c.args.interval c.args.limit s clock c.min.result next going c.loop-state-test.true c.min.ensures c.in_ok-run_to.ensures.clock now then
           c.loop-state.invariant.state c.in_ok-run_to.ensures.state;
       proper = c.in_ok-run_to.ensures.proper;
-      punctual = λ first. c.in_ok-run_to.ensures.punctual (c.loop-state.invariant.punctual first);
+      punctual = c.in_ok-run_to.ensures.punctual;
     }
 
 -- at the limit
