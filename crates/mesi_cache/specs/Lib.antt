@@ -1,4 +1,5 @@
 pub mod Caches
 pub mod Lines
+pub mod Places
 pub mod Sets
 pub mod Words

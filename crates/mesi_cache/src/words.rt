@@ -5,6 +5,7 @@ ghost use Rattle.mesi_cache.specs.Words.{word_of, with_word};
 use slack_base::Words;
 
 /// The word at a place, 0 to 3.
+#[inline]
 pub fn word_at(words: &Words, place: u32) -> u32
     requires { place < 4 }
     ensures { result ≡ word_of words.now place }
@@ -23,11 +24,20 @@ pub fn with_word(words: &Words, place: u32, value: u32) -> Words
     ensures { result ≡ with_word words.now place value }
 {
     let mut changed = *words;
-    match place {
-        0 => changed.w0 = value,
-        1 => changed.w1 = value,
-        2 => changed.w2 = value,
-        _ => changed.w3 = value,
-    }
+    put_word(&mut changed, place, value);
     changed
+}
+
+/// Puts another word at a place, 0 to 3.
+#[inline]
+pub fn put_word(words: &mut Words, place: u32, value: u32)
+    requires { place < 4 }
+    ensures { words.new ≡ with_word words.old place value }
+{
+    match place {
+        0 => words.w0 = value,
+        1 => words.w1 = value,
+        2 => words.w2 = value,
+        _ => words.w3 = value,
+    }
 }

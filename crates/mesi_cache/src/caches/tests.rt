@@ -1,5 +1,6 @@
 //! Calls of a cache one after another, each with its answer and the lines that its set then holds.
 
+mod finds;
 mod orders;
 mod states;
 
