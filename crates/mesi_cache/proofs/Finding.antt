@@ -42,19 +42,27 @@ module _ (v : CacheValue) (is : IsCache v) (line number : ℕ) (here : number �
     pub is_found : IsFoundIn v (record { line = line; set = number; place = i; held = h })
     is_found = record { its_set = here; its_place = rw (← its_list) stands_at; its_state = its_state }
 
+-- the line that was found
+pub line_found : (c : CacheValue) (f : Found) → IsFoundIn c f → (l : CacheLine) × (line_in c f.line ≡ Some l) × (l.held ≡ f.held)
+line_found c f found = made_of (λ l. l.held) (line_in c f.line) f.held found.its_state
+
+-- its set is one of the cache
+pub set_within : (c : CacheValue) → IsCache c → (f : Found) → IsFoundIn c f → f.set < length c.sets
+set_within c is f found = in_range c is f.line f.set found.its_set
+
 -- a line that was found in a cache, which is seen as w
 module _ (v : CacheValue) (is : IsCache v) (w : CacheValue) (seen : v ≡ w) (f : Found) (was_found : IsFoundIn w f) where
   found : IsFoundIn v f
   found = rw seen was_found
 
-  pub its_line : (l : CacheLine) × (line_in v f.line ≡ Some l) × (l.held ≡ f.held)
-  its_line = made_of (λ l. l.held) (line_in v f.line) f.held found.its_state
+  its_line : (l : CacheLine) × (line_in v f.line ≡ Some l) × (l.held ≡ f.held)
+  its_line = line_found v f found
 
   module _ (s : List CacheLine) (read : s ≡ get_or v.sets f.set s) where
     its_set_is : s ≡ set_of v f.line
     its_set_is = its_list v is f.line f.set found.its_set s read
 
-    pub at_its_place : slice_get s f.place ≡ Some (its_line.0)
+    at_its_place : slice_get s f.place ≡ Some (its_line.0)
     at_its_place = rw its_set_is (found.its_place ∙ its_line.1)
 
     pub within : f.place < length s
@@ -65,7 +73,7 @@ module _ (v : CacheValue) (is : IsCache v) (w : CacheValue) (seen : v ≡ w) (f 
 
     -- its set where it moved to the front
     module _ (change : CacheLine → CacheLine) (t : List CacheLine) (moved : IsSomeAnd (slice_get s f.place) (λ l. t ≡ change l ∷ remove s f.place)) where
-      pub is_front : t ≡ to_front change f.line s
+      is_front : t ≡ to_front change f.line s
       is_front =
           let m : t ≡ change its_line.0 ∷ remove s f.place = rw at_its_place at moved in
           let once = (its_set v is f.line f.set found.its_set s read).once f.line in

@@ -148,6 +148,7 @@ impl Cache {
     }
 }
 
+pub mod copies;
 mod hits;
 #[cfg(test)]
 mod tests;

@@ -9,6 +9,7 @@ mod sets;
 pub mod words;
 
 pub use caches::Cache;
+pub use caches::copies::SetCopy;
 pub use lines::{CacheLine, Held, HeldLine, Victim};
 pub use places::Found;
 pub use words::word_at;

@@ -64,6 +64,14 @@ impl CacheSet {
         }
     }
 
+    /// Makes this set equal to another.
+    pub fn put(&mut self, other: &CacheSet)
+        ensures { self.new ≡ other.now }
+    {
+        self.lines = other.lines;
+        self.len = other.len;
+    }
+
     pub fn len(&self) -> usize
         ensures length { result ≡ length self.now }
         ensures room { length self.now ≤ 8 }
