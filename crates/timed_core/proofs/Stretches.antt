@@ -127,7 +127,6 @@ module _ (code : CodeValue) where
   pub stretch_after : (t j k : ℕ) (core next : HartValue) → stretch code t j core ≡ (next, []) → stretch code t (j + k) core ≡ stretch code (t + j) k next
   stretch_after t j k core next first = stretch-add t j k core ∙ ap (then_on (t + j) k) first
 
-
 -- a stretch that asks for nothing asked for nothing before
 front_silent : (code : CodeValue) (t j k : ℕ) (core : HartValue) → (stretch code t (j + k) core).1 ≡ [] → (stretch code t j core).1 ≡ []
 front_silent code t j k core silent = append_nil_left _ _ (ap (λ r. r.1) (sym (stretch-add code t j k core)) ∙ silent)
@@ -314,15 +313,15 @@ rests : (code : CodeValue) (t most : ℕ) (core : HartValue) → IsRest code t m
 rests code t most core = elim (cases_Bool (is_running core.ended)) [
   | inl running ↦ elim (cases_Bool core.waiting) [
     | inl waits ↦
-      let all : rest_of core most ≡ most = rw (running, waits) refl in
-      subst (λ k. IsRest code t most k core) (sym all) (record { within = omega arith; silent = silent_while code t most core waits })
+        let all : rest_of core most ≡ most = rw (running, waits) refl in
+        subst (λ k. IsRest code t most k core) (sym all) (record { within = omega arith; silent = silent_while code t most core waits })
     | inr awake ↦
-      let some : rest_of core most ≡ min core.busy most = rw (running, awake) refl in
-      subst (λ k. IsRest code t most k core) (sym some) (record { within = grind arith; silent = ap (λ r. r.1) (busy_leap (min core.busy most) core running (grind arith) code t) })
+        let some : rest_of core most ≡ min core.busy most = rw (running, awake) refl in
+        subst (λ k. IsRest code t most k core) (sym some) (record { within = grind arith; silent = ap (λ r. r.1) (busy_leap (min core.busy most) core running (grind arith) code t) })
   ]
   | inr ended ↦
-    let all : rest_of core most ≡ most = rw ended refl in
-    subst (λ k. IsRest code t most k core) (sym all) (record { within = omega arith; silent = ap (λ r. r.1) (ended_leap most core ended code t) })
+      let all : rest_of core most ≡ most = rw ended refl in
+      subst (λ k. IsRest code t most k core) (sym all) (record { within = omega arith; silent = ap (λ r. r.1) (ended_leap most core ended code t) })
 ]
 
 quiet_for : (code : CodeValue) (t k due : ℕ) (core : HartValue) (inbox : List Post) → AllByRecursion (λ p. due ≤ p.due) inbox → k ≤ due - t

@@ -9,7 +9,7 @@ returns-then-is_some-clause-stretch c =
     c.loop-next.invariant.begun c.part-part.ensures.next.0 c.loop-next.invariant.silent c.part-part.ensures.stretch
 
 pub loop-next-preserved : goal.loop-next-preserved
-loop-next-preserved c = 
+loop-next-preserved c =
     let whole : IsStretch c.args.code.now c.args.from c.args.self.now c.part-part.new.self c.part-part.result =
     stretch_on c.args.code.now c.args.from c.loop-next.next c.args.self.now c.loop-next.self c.part-part.new.self c.part-part.result
     c.loop-next.invariant.begun c.part-part.ensures.next.0 c.loop-next.invariant.silent c.part-part.ensures.stretch in
