@@ -1,4 +1,5 @@
 pub mod CacheSteps
+pub mod Finding
 pub mod Kept
 pub mod Once
 pub mod Order

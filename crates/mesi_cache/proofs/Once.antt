@@ -1,9 +1,9 @@
 -- Lists of which at most one element passes a test.
-use Rattle.std.proofs.Common.{◌≡◌, ℕ, suc, ◌+◌, ◌<◌, ◌≤◌, Bool, not, cond, List, [], ◌∷◌, Some, None, length, get_or, set, map, filter, find, position, remove, slice_get, refl, ap, ◌∙◌, inl, inr, arith}
+use Rattle.std.proofs.Common.{◌≡◌, ℕ, zero, suc, ◌+◌, ◌<◌, ◌≤◌, Bool, true, not, cond, List, [], ◌∷◌, Some, None, length, get_or, set, map, filter, find, position, remove, slice_get, refl, ap, ◌∙◌, inl, inr, arith}
 use Rattle.std.specs.List.{position_or_len}
 use Rattle.std.proofs.lemmas.Bool.{cases_Bool, cases_lt, ltb-true, lt-ltb}
 use Rattle.std.proofs.lemmas.List.Folds.{find_at}
-use Rattle.std.proofs.lemmas.Option.{get_or_from_slice_get, slice_get-get_or, slice_get_past, cond_some}
+use Rattle.std.proofs.lemmas.Option.{none-some, same_Some, get_or_from_slice_get, slice_get-get_or, slice_get_past, slice_get_within, cond_some}
 
 one_more : (n : ℕ) → 1 + n ≡ suc n
 one_more n = omega arith
@@ -61,7 +61,7 @@ module _ {X : Type 0} (p : X → Bool) where
     | inr f ↦ let e = rw f at h in let l = rw f at k in rw (f, one_more (position_or_len p xs)) (ap (λ ys. x ∷ ys) (changed_at g xs d (omega arith) (omega arith)))
   ]
 
-  some_place : (xs : List X) (i : ℕ) → position p xs ≡ Some i → (position_or_len p xs < length xs) × (position_or_len p xs ≡ i)
+  pub some_place : (xs : List X) (i : ℕ) → position p xs ≡ Some i → (position_or_len p xs < length xs) × (position_or_len p xs ≡ i)
   some_place xs i h = let e = cond_some _ _ _ h in (ltb-true _ _ e.0, e.1)
 
   -- the one element that passes stands at i
@@ -92,6 +92,36 @@ module _ {X : Type 0} (p : X → Bool) where
 
   pub found : (xs : List X) (i : ℕ) (x : X) → length (filter p xs) ≤ 1 → position p xs ≡ Some i → slice_get xs i ≡ Some x → Found xs i x
   found xs i x once place at = let s = some_place xs i place in found_at xs i x once s.0 s.1 at
+
+  -- an element that passes stands at i
+  counted : (xs : List X) (i : ℕ) (x : X) → slice_get xs i ≡ Some x → p x ≡ true → 1 ≤ length (filter p xs)
+  counted [] i x at passes = absurd (none-some x at)
+  counted (y ∷ ys) zero x at passes = let e : p y ≡ true = rw (same_Some y x at) passes in rw e (omega arith)
+  counted (y ∷ ys) (suc i) x at passes = elim (cases_Bool (p y)) [
+    | inl t ↦ rw t (omega arith)
+    | inr f ↦ rw f (counted ys i x at passes)
+  ]
+
+  only_place : (xs : List X) (i : ℕ) (x : X) → length (filter p xs) ≤ 1 → slice_get xs i ≡ Some x → p x ≡ true → position_or_len p xs ≡ i
+  only_place [] i x once at passes = absurd (none-some x at)
+  only_place (y ∷ ys) zero x once at passes = let e : p y ≡ true = rw (same_Some y x at) passes in rw e refl
+  only_place (y ∷ ys) (suc i) x once at passes = elim (cases_Bool (p y)) [
+    | inl t ↦ let h = rw t at once in absurd (omega (arith, counted ys i x at passes))
+    | inr f ↦ let h = rw f at once in rw (f, one_more (position_or_len p ys)) (ap suc (only_place ys i x h at passes))
+  ]
+
+  found_passes : (xs : List X) (x : X) → find p xs ≡ Some x → p x ≡ true
+  found_passes [] x is = absurd (none-some x is)
+  found_passes (y ∷ ys) x is = elim (cases_Bool (p y)) [
+    | inl t ↦ let e = rw t at is in rw (← same_Some y x e) t
+    | inr f ↦ let e = rw f at is in found_passes ys x e
+  ]
+
+  -- the one that passes stands at i, so the first that passes does
+  pub place_is : (xs : List X) (i : ℕ) (x : X) → length (filter p xs) ≤ 1 → slice_get xs i ≡ Some x → find p xs ≡ Some x → position p xs ≡ Some i
+  place_is xs i x once at is =
+      let e = only_place xs i x once at (found_passes xs x is) in
+      rw (lt-ltb (position_or_len p xs) (length xs) (omega (arith, slice_get_within xs i x at))) (ap Some e)
 
   -- no element passes
   pub record Missing (xs : List X) : Type 0 where

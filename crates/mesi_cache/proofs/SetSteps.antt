@@ -1,10 +1,10 @@
 -- What the operations on a set come to, where the place of the line is known, and where the set doesn't hold it.
-use Rattle.std.proofs.Common.{◌≡◌, ℕ, suc, ◌+◌, ◌-◌, ◌<◌, ◌≤◌, Bool, true, false, List, ◌∷◌, ◌++◌, Some, None, IsSome, IsSomeAnd, IsTrue, length, filter, position, take, set, remove, slice_get, refl, sym, ap, ◌∙◌, cond, arith}
+use Rattle.std.proofs.Common.{◌≡◌, ℕ, suc, ◌+◌, ◌-◌, ◌<◌, ◌≤◌, Bool, true, false, List, ◌∷◌, ◌++◌, Some, None, length, filter, position, take, set, remove, slice_get, refl, sym, ap, ◌∙◌, cond, arith}
 use Rattle.std.proofs.lemmas.List.{take_all, drop_all, append-nil}
 use Rattle.std.proofs.lemmas.List.Edits.{length-remove}
 use Rattle.std.proofs.lemmas.Option.{slice_get_past}
 use Rattle.mesi_cache.specs.declared.lines.CacheLine.{CacheLine}
-use Rattle.mesi_cache.specs.Lines.{shared, may_write}
+use Rattle.mesi_cache.specs.Lines.{shared}
 use Rattle.mesi_cache.specs.Sets.{is_line, find_line, others, to_front, snoop_set}
 use Rattle.mesi_cache.proofs.Once.{Found, found, Missing, missing}
 
@@ -32,9 +32,6 @@ module _ (line : ℕ) (s : List CacheLine) (i : ℕ) (x : CacheLine) (once : len
   pub fallen_held : (ways : ℕ) (new : CacheLine) → length s ≤ ways → slice_get (new ∷ others line s) ways ≡ None
   fallen_held ways new within = rw stands.others (slice_get_past (new ∷ remove s i) ways (omega (arith, kept)))
 
-  pub may_write_held : IsSomeAnd (find_line line s) (λ l. IsTrue (may_write l.held)) → IsTrue (may_write x.held)
-  may_write_held h = rw find_held at h
-
 -- the set doesn't hold the line
 module _ (line : ℕ) (s : List CacheLine) (absent : position (is_line line) s ≡ None) where
   lacks : Missing (is_line line) s
@@ -42,12 +39,6 @@ module _ (line : ℕ) (s : List CacheLine) (absent : position (is_line line) s �
 
   pub find_missing : find_line line s ≡ None
   find_missing = lacks.not_found
-
-  pub not_held : IsSome (find_line line s) → ⊥
-  not_held h = let e = rw find_missing at h in absurd (cc)
-
-  pub not_written : IsSomeAnd (find_line line s) (λ l. IsTrue (may_write l.held)) → ⊥
-  not_written h = rw find_missing at h
 
   pub snoop_missing : (own : Bool) → snoop_set line own s ≡ s
   snoop_missing true = lacks.others

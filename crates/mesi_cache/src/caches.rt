@@ -32,6 +32,7 @@ impl Model for Cache {
 }
 
 /// The number of the set where a line belongs.
+#[inline]
 fn set_number(line: u32, sets: usize) -> usize
     requires { IsTrue (is_among sets (1 ∷ 2 ∷ 4 ∷ 8 ∷ 16 ∷ 32 ∷ 64 ∷ [])) }
     ensures { result ≡ line % sets }
@@ -81,19 +82,11 @@ impl Cache {
         ensures { result ≡ option_map held_line (line_in self.now line) }
     {
         let found = self.find(line)?;
+        let held = self.line_of(found);
         Some(HeldLine {
-            held: found.held,
-            words: found.words,
+            held: held.held,
+            words: held.words,
         })
-    }
-
-    fn find(&self, line: u32) -> Option<CacheLine>
-        ensures line { result ≡ line_in self.now line }
-        ensures cache { IsCache self.now }
-    {
-        let number = set_number(line, self.sets.len());
-        let set = &self.sets[number];
-        set.find(line)
     }
 
     /// Reads a word, 0 to 3, of a line that the cache holds. The line becomes the most recent of its set.
@@ -103,9 +96,12 @@ impl Cache {
         ensures value { option_map (λ l. word_of l.words word) (line_in self.old line) ≡ Some result }
         ensures after { self.new ≡ read_line self.old line }
     {
-        let number = set_number(line, self.sets.len());
-        let set = &mut self.sets[number];
-        set.read(line, word)
+        let Some(found) = self.find(line) else {
+            unreachable!()
+        };
+        let value = self.word(found, word);
+        self.use_found(found);
+        value
     }
 
     /// Writes a word, 0 to 3, of a line that the cache holds and may write. The line becomes Modified, and the most
@@ -115,9 +111,10 @@ impl Cache {
         requires in_line { word < 4 }
         ensures { self.new ≡ write_line self.old line word value }
     {
-        let number = set_number(line, self.sets.len());
-        let set = &mut self.sets[number];
-        set.write(line, word, value);
+        let Some(found) = self.find(line) else {
+            unreachable!()
+        };
+        self.write_found(found, word, value);
     }
 
     /// Puts a line with its words at the front of its set, Exclusive or Shared. Where the set was full of other
@@ -151,5 +148,7 @@ impl Cache {
     }
 }
 
+pub mod copies;
+mod hits;
 #[cfg(test)]
 mod tests;

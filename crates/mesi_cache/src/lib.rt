@@ -4,9 +4,12 @@
 pub mod caches;
 pub mod laws;
 pub mod lines;
+pub mod places;
 mod sets;
 pub mod words;
 
 pub use caches::Cache;
+pub use caches::copies::SetCopy;
 pub use lines::{CacheLine, Held, HeldLine, Victim};
+pub use places::Found;
 pub use words::word_at;

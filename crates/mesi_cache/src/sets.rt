@@ -1,12 +1,12 @@
 //! One set of a cache.
-ghost use Rattle.std.specs.Prelude.{◌≡◌, ◌<◌, ◌≤◌, [], ◌∷◌, length, filter, position, remove, slice_get, slice_set, Some, IsSome, IsSomeAnd, IsTrue};
+ghost use Rattle.std.specs.Prelude.{◌≡◌, ◌<◌, ◌≤◌, [], ◌∷◌, length, filter, position, remove, slice_get, slice_set, Some, IsSomeAnd};
 ghost use Rattle.std.specs.Option.{option_map};
 ghost use Rattle.mesi_cache.specs.Words.{word_of};
-ghost use Rattle.mesi_cache.specs.Lines.{filled, written, may_write};
-ghost use Rattle.mesi_cache.specs.Sets.{is_line, find_line, to_front, fill_set, fallen, snoop_set};
+ghost use Rattle.mesi_cache.specs.Lines.{written};
+ghost use Rattle.mesi_cache.specs.Sets.{is_line, find_line, fill_set, fallen, snoop_set};
 
 use crate::lines::{CacheLine, Held};
-use crate::words::{with_word, word_at};
+use crate::words::{put_word, word_at};
 use slack_base::Words;
 use std::marker::Model;
 
@@ -64,6 +64,14 @@ impl CacheSet {
         }
     }
 
+    /// Makes this set equal to another.
+    pub fn put(&mut self, other: &CacheSet)
+        ensures { self.new ≡ other.now }
+    {
+        self.lines = other.lines;
+        self.len = other.len;
+    }
+
     pub fn len(&self) -> usize
         ensures length { result ≡ length self.now }
         ensures room { length self.now ≤ 8 }
@@ -71,8 +79,19 @@ impl CacheSet {
         self.len
     }
 
-    /// The place of the line of this number, from 0: none where the set doesn't hold it.
+    /// The place of the line of this number, from 0: none where the set doesn't hold it. The front is looked at first.
+    #[inline]
     pub fn place_of(&self, line: u32) -> Option<usize>
+        ensures { result ≡ position (is_line line) self.now }
+    {
+        if self.len > 0 && self.lines[0].line == line {
+            return Some(0);
+        }
+        self.search(line)
+    }
+
+    /// The place of the line of this number, where the set is searched from the front to the end.
+    fn search(&self, line: u32) -> Option<usize>
         ensures { result ≡ position (is_line line) self.now }
     {
         self.lines[..self.len].iter().position(|l| l.line == line)
@@ -85,6 +104,27 @@ impl CacheSet {
     {
         let lines = &self.lines;
         lines[place]
+    }
+
+    /// The state of the line at a place.
+    #[inline]
+    pub fn held_at(&self, place: usize) -> Held
+        requires { place < length self.now }
+        ensures { option_map (λ l. l.held) (slice_get self.now place) ≡ Some result }
+    {
+        let lines = &self.lines;
+        lines[place].held
+    }
+
+    /// A word of the line at a place.
+    #[inline]
+    pub fn word(&self, place: usize, word: u32) -> u32
+        requires place { place < length self.now }
+        requires in_line { word < 4 }
+        ensures { option_map (λ l. word_of l.words word) (slice_get self.now place) ≡ Some result }
+    {
+        let lines = &self.lines;
+        word_at(&lines[place].words, word)
     }
 
     /// Puts a line in place of another.
@@ -101,6 +141,10 @@ impl CacheSet {
         requires { place < length self.old }
         ensures { self.new ≡ line ∷ remove self.old place }
     {
+        if place == 0 {
+            self.set(0, line);
+            return;
+        }
         self.lines.copy_within(0..place, 1);
         self.lines[0] = line;
     }
@@ -123,49 +167,40 @@ impl CacheSet {
         self.len -= 1;
     }
 
-    /// The line of this number, if the set holds it.
-    pub fn find(&self, line: u32) -> Option<CacheLine>
-        ensures { result ≡ find_line line self.now }
+    /// Moves the line at a place to the front: the line that is there stays.
+    #[inline]
+    pub fn use_place(&mut self, place: usize)
+        requires { place < length self.old }
+        ensures { IsSomeAnd (slice_get self.old place) (λ l. self.new ≡ l ∷ remove self.old place) }
     {
-        let place = self.place_of(line)?;
-        Some(self.at(place))
-    }
-
-    /// Reads a word of a line that the set holds.
-    pub fn read(&mut self, line: u32, word: u32) -> u32
-        requires held { IsSome (find_line line self.old) }
-        requires once { length (filter (is_line line) self.old) ≤ 1 }
-        requires in_line { word < 4 }
-        ensures value { option_map (λ l. word_of l.words word) (find_line line self.old) ≡ Some result }
-        ensures after { self.new ≡ to_front (λ l. l) line self.old }
-    {
-        let Some(place) = self.place_of(line) else {
-            unreachable!()
-        };
+        if place == 0 {
+            return;
+        }
         let used = self.at(place);
         self.put_front(place, used);
-        word_at(&used.words, word)
     }
 
-    /// Writes a word of a line that the set holds and that may be written.
-    pub fn write(&mut self, line: u32, word: u32, value: u32)
-        requires writable { IsSomeAnd (find_line line self.old) (λ l. IsTrue (may_write l.held)) }
-        requires once { length (filter (is_line line) self.old) ≤ 1 }
+    /// Moves the line at a place to the front, with another word.
+    #[inline]
+    pub fn write_place(&mut self, place: usize, word: u32, value: u32)
+        requires place { place < length self.old }
         requires in_line { word < 4 }
-        ensures { self.new ≡ to_front (written word value) line self.old }
+        ensures { IsSomeAnd (slice_get self.old place) (λ l. self.new ≡ written word value l ∷ remove self.old place) }
     {
-        let Some(place) = self.place_of(line) else {
-            unreachable!()
-        };
-        let used = self.at(place);
-        let writable = used.held.may_write();
-        prove!(writable);
-        let written = CacheLine {
-            held: Held::Modified,
-            words: with_word(&used.words, word, value),
-            ..used
-        };
-        self.put_front(place, written);
+        self.use_place(place);
+        self.write_first(word, value);
+    }
+
+    /// Writes a word of the line at the front.
+    #[inline]
+    fn write_first(&mut self, word: u32, value: u32)
+        requires some { 0 < length self.old }
+        requires in_line { word < 4 }
+        ensures { IsSomeAnd (slice_get self.old 0) (λ l. self.new ≡ slice_set self.old 0 (written word value l)) }
+    {
+        let first = &mut self.lines[0];
+        first.held = Held::Modified;
+        put_word(&mut first.words, word, value);
     }
 
     /// Puts a line at the front: where the set was full of others, the last of them falls out.

@@ -4,17 +4,16 @@ ghost use Rattle.mesi_cache.specs.Words.{word_of, with_word};
 
 use slack_base::Words;
 
-/// The word at a place, 0 to 3.
+/// The word at a place, 0 to 3. It is picked with no jump, since places come in any order.
+#[inline]
 pub fn word_at(words: &Words, place: u32) -> u32
     requires { place < 4 }
     ensures { result ≡ word_of words.now place }
 {
-    match place {
-        0 => words.w0,
-        1 => words.w1,
-        2 => words.w2,
-        _ => words.w3,
-    }
+    let Words { w0, w1, w2, w3 } = *words;
+    let first = if place == 0 { w0 } else { w1 };
+    let last = if place == 2 { w2 } else { w3 };
+    if place < 2 { first } else { last }
 }
 
 /// The words with another one at a place, 0 to 3.
@@ -23,11 +22,21 @@ pub fn with_word(words: &Words, place: u32, value: u32) -> Words
     ensures { result ≡ with_word words.now place value }
 {
     let mut changed = *words;
-    match place {
-        0 => changed.w0 = value,
-        1 => changed.w1 = value,
-        2 => changed.w2 = value,
-        _ => changed.w3 = value,
-    }
+    put_word(&mut changed, place, value);
     changed
+}
+
+/// Puts another word at a place, 0 to 3, with no jump.
+#[inline]
+pub fn put_word(words: &mut Words, place: u32, value: u32)
+    requires { place < 4 }
+    ensures { words.new ≡ with_word words.old place value }
+{
+    let Words { w0, w1, w2, w3 } = *words;
+    *words = Words {
+        w0: if place == 0 { value } else { w0 },
+        w1: if place == 1 { value } else { w1 },
+        w2: if place == 2 { value } else { w2 },
+        w3: if place == 3 { value } else { w3 },
+    };
 }

@@ -1,7 +1,12 @@
 //! Calls of a cache one after another, each with its answer and the lines that its set then holds.
 
+mod copies;
+mod finds;
 mod orders;
 mod states;
+
+ghost use Rattle.std.specs.Prelude.{length};
+ghost use Rattle.mesi_cache.specs.Caches.{HasShape};
 
 use super::*;
 use Held::{Exclusive, Modified, Shared};
@@ -48,13 +53,20 @@ fn words_of(line: u32) -> Words {
 }
 
 /// Reads a word of a line, if the cache holds it.
-fn read_held(cache: &mut Cache, line: u32, word: u32) -> Option<u32> {
+fn read_held(cache: &mut Cache, line: u32, word: u32) -> Option<u32>
+    ensures { HasShape (length cache.old.sets) cache.old.ways cache.new }
+{
     cache.lookup(line)?;
-    (word < 4).then(|| cache.read(line, word))
+    if word >= 4 {
+        return None;
+    }
+    Some(cache.read(line, word))
 }
 
 /// Writes a word of a line, if this cache alone holds it, and answers it.
-fn write_held(cache: &mut Cache, line: u32, word: u32, value: u32) -> Option<u32> {
+fn write_held(cache: &mut Cache, line: u32, word: u32, value: u32) -> Option<u32>
+    ensures { HasShape (length cache.old.sets) cache.old.ways cache.new }
+{
     let held = cache.lookup(line)?;
     if !held.may_write() || word >= 4 {
         return None;
@@ -65,7 +77,9 @@ fn write_held(cache: &mut Cache, line: u32, word: u32, value: u32) -> Option<u32
 
 /// Makes a call. The answer is the number of the line that fell out, the last word of the line that was read, written
 /// or snooped, or none.
-fn answer(cache: &mut Cache, call: Call) -> Option<u32> {
+fn answer(cache: &mut Cache, call: Call) -> Option<u32>
+    ensures { HasShape (length cache.old.sets) cache.old.ways cache.new }
+{
     match call {
         Call::Fill { line, exclusive } => cache
             .fill(line, exclusive, words_of(line))
