@@ -7,3 +7,4 @@ pub mod Keeping
 pub mod Lawful
 pub mod PostSteps
 pub mod Steps
+pub mod Stretches

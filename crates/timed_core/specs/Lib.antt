@@ -5,5 +5,6 @@ pub mod Effects
 pub mod Kept
 pub mod Laws
 pub mod Posts
+pub mod Stretches
 pub mod Ticks
 pub mod Touches

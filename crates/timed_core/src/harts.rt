@@ -5,6 +5,7 @@ ghost use Rattle.timed_core.specs.Cores.{line_number};
 mod execution;
 mod hits;
 mod posts;
+mod stretches;
 
 use mesi_cache::{Cache, HeldLine};
 use slack_base::{Config, CoreEnd, Counts, OutOfMemory, Trap, raised};

@@ -31,12 +31,14 @@ impl Model for TimedCore {
 }
 
 impl TimedCore {
-    ghost use Rattle.std.specs.Prelude.{◌≡◌, ◌<◌, ◌≤◌, ◌++◌, [], IfNone, IfOk, IfSome, OnOk, OnErr, None, Some, not, slice_index};
+    ghost use Rattle.std.specs.Prelude.{◌≡◌, ◌-◌, ◌<◌, ◌≤◌, ◌++◌, [], IfNone, IfOk, IfSome, OnOk, OnErr, None, Some, not, slice_index};
     ghost use Rattle.slack_base.specs.Numbers.{numbers_of};
-    ghost use Rattle.slack_base.specs.Inboxes.{with_put, tick_by};
+    ghost use Rattle.slack_base.specs.Inboxes.{with_put, tick_by, ticks_by};
     ghost use Rattle.slack_base.specs.declared.bounds.TheConstants.{TOP};
     ghost use Rattle.timed_core.specs.Accesses.{held_in};
+    ghost use Rattle.timed_core.specs.Code.{CodeValue};
     ghost use Rattle.timed_core.specs.Cores.{IsBy, first_core, is_running};
+    ghost use Rattle.timed_core.specs.Stretches.{AreTicks, quiet_of};
     ghost use Rattle.timed_core.specs.Ticks.{tick};
     ghost use Rattle.timed_core.specs.Touches.{touched_of};
 
@@ -156,6 +158,71 @@ impl TimedCore {
         let id = id_at(cycle, &self.hart, out.len() - before);
         let ask = self.hart.step(code, id);
         send(ask, out)
+    }
+
+    /// Ticks from a cycle on, one after another, with no new post: up to the cycle `until`, or up to the first in which
+    /// it sends something, which is then the last. The answer is the cycle after them. Asks are appended, numbered
+    /// from 0 in their cycle. After want of memory the core may be changed in part, as after that of a tick.
+    pub fn advance(
+        &mut self,
+        code: &Code,
+        from: u64,
+        until: u64,
+        out: &mut AskList,
+    ) -> Result<u64, OutOfMemory>
+        requires order { from < until }
+        requires top { until ≤ TOP }
+        ensures reached { IfOk result (λ r. (from < r) × (r ≤ until)) }
+        ensures core { IfOk result (λ r. self.new.value ≡ (ticks_by (tick code.now) from (r - from) self.old.value).0) }
+        ensures asks { IfOk result (λ r. out.new ≡ out.old ++ (ticks_by (tick code.now) from (r - from) self.old.value).1) }
+        // Only the last of these cycles may send something,
+        ensures last { IfOk result (λ r. (ticks_by (tick code.now) from (r - from - 1) self.old.value).1 ≡ []) }
+        // and where there are fewer than might be, it did.
+        ensures sent { IfOk result (λ r. r < until → ¬ ((ticks_by (tick code.now) from (r - from) self.old.value).1 ≡ [])) }
+        ensures saved { self.new.saved ≡ self.old.saved }
+    {
+        let before = out.len();
+        let mut next = from;
+        while next < until && out.len() == before {
+            next = self.part(code, next, until, out)?;
+        }
+        Ok(next)
+    }
+
+    /// The ticks of some of the cycles from one on: of that in which a post is due, or of those before the first post
+    /// is.
+    fn part(
+        &mut self,
+        code: &Code,
+        from: u64,
+        until: u64,
+        out: &mut AskList,
+    ) -> Result<u64, OutOfMemory>
+        requires order { from < until }
+        requires top { until ≤ TOP }
+        ensures reached { IfOk result (λ r. (from < r) × (r ≤ until)) }
+        ensures ticks { IfOk result (λ r. AreTicks code.now from r self.old.value self.new.value out.old out.new) }
+        ensures saved { self.new.saved ≡ self.old.saved }
+    {
+        let due = self.inbox.next_due();
+        if due <= from {
+            self.tick(code, from, out)?;
+            return Ok(from + 1);
+        }
+        let stretch = self.hart.stretch(code, from, until.min(due));
+        send(stretch.ask, out)?;
+        Ok(stretch.next)
+    }
+
+    /// How many cycles from a cycle on the core certainly sends nothing, if no post comes in: up to the cycle at which
+    /// its first post is due all of them where it has ended or waits for a line, and else those for which it is busy. It
+    /// takes no memory.
+    pub fn quiet(&self, from: u64) -> u64
+        ensures count { result ≡ quiet_of from self.now.value }
+        ensures silent { (code : CodeValue) → (ticks_by (tick code) from result self.now.value).1 ≡ [] }
+    {
+        let due = self.inbox.next_due();
+        self.hart.rest(due.saturating_sub(from))
     }
 
     /// Marks the core as it is now, by a whole copy. An older mark is replaced; where there is no memory for the new

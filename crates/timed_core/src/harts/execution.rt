@@ -36,7 +36,7 @@ impl Hart {
 
     /// Executes the instruction at pc, or ends the hart where none is.
     #[tactic(auto, using(crate::proofs::Fetching::performed_of, crate::proofs::Fetching::refused_of))]
-    fn fetch(&mut self, code: &Code, id: Id) -> Option<Ask>
+    pub fn fetch(&mut self, code: &Code, id: Id) -> Option<Ask>
         requires { id.cycle ≤ TOP }
         ensures after { self.new ≡ (fetched code.now (word_at code.now self.old.pc) id self.old).0 }
         ensures ask { result ≡ (fetched code.now (word_at code.now self.old.pc) id self.old).1 }

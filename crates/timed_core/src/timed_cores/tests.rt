@@ -10,6 +10,7 @@ mod marks;
 mod parts;
 mod posts;
 mod prepared;
+mod stretches;
 mod victims;
 
 use super::*;

@@ -8,7 +8,7 @@ const PROGRAM: [u32; 3] = [LUI_X8, LW_X5, 0];
 
 /// What the readers tell of a core.
 #[derive(Clone, Copy, Debug, PartialEq)]
-struct Told {
+pub struct Told {
     pc: u32,
     x5: u32,
     held: Option<HeldLine>,
@@ -57,7 +57,7 @@ const LATER: Told = Told {
     },
 };
 
-fn what_is_told(core: &TimedCore) -> Told {
+pub fn what_is_told(core: &TimedCore) -> Told {
     Told {
         pc: core.pc(),
         x5: core.reg(5),

@@ -1,0 +1,339 @@
+-- Cycles of a core, one after another, with no new post.
+use Rattle.std.proofs.Common.{◌≡◌, ◌∙◌, ℕ, ◌+◌, ◌-◌, ◌<◌, ◌≤◌, ◌==◌, zero, suc, true, false, List, [], ◌∷◌, ◌++◌, Option, None, Some, min, refl, sym, ap, subst, inl, inr, arith, append_assoc, append-nil, length, length-append}
+use Rattle.std.proofs.lemmas.List.{nil_from_length}
+use Rattle.std.proofs.lemmas.Bool.{cases_Bool, true≢false}
+use Rattle.std.specs.Option.{is_some}
+use Rattle.std.specs.List.{AllByRecursion}
+use Rattle.slack_base.specs.declared.messages.Ask.{Ask}
+use Rattle.slack_base.specs.declared.messages.Post.{Post}
+use Rattle.slack_base.specs.declared.stamps.Id.{Id}
+use Rattle.slack_base.specs.Growing.{raised, capped}
+use Rattle.slack_base.specs.Inboxes.{CoreValue, tick_by, ticks_by}
+use Rattle.timed_core.specs.Code.{CodeValue, word_at}
+use Rattle.timed_core.specs.Cores.{HartValue, is_running}
+use Rattle.timed_core.specs.Ticks.{asks_of, id_at, fetched, stepped, tick}
+use Rattle.timed_core.specs.Stretches.{stretch, IsStretch, IsLeap, IsReady, AreTicks, rest_of}
+use Rattle.timed_core.specs.declared.harts.stretches.Stretch.{Stretch}
+use Rattle.timed_core.proofs.Due.{later_than, none_due, all_later}
+
+-- two lists without an item
+append_nil_left : (xs ys : List Ask) → xs ++ ys ≡ [] → xs ≡ []
+append_nil_left xs ys e =
+    let none : length xs + length ys ≡ 0 = sym (length-append xs ys) ∙ ap length e in
+    nil_from_length xs (omega arith)
+
+-- a step that asks for nothing goes first
+one_on : (code : CodeValue) (t k : ℕ) (core next : HartValue) (last : HartValue) → stepped code (id_at t core 0) core ≡ (next, None)
+    → stretch code (t + 1) k next ≡ (last, []) → stretch code t (suc k) core ≡ (last, [])
+one_on code t k core next last one rest =
+    ap (λ now. let rest = stretch code (t + 1) k now.0 in (rest.0, asks_of now.1 ++ rest.1)) one ∙ rest
+
+-- what a step does to a hart that executes nothing
+ended_step : (code : CodeValue) (id : Id) (core : HartValue) → is_running core.ended ≡ false → stepped code id core ≡ (core, None)
+unfolding stepped
+ended_step code id core ended = rw ended refl
+
+busy_step : (code : CodeValue) (id : Id) (core : HartValue) → is_running core.ended ≡ true → (core.busy == 0) ≡ false
+    → stepped code id core ≡ (record core { busy = core.busy - 1 }, None)
+unfolding stepped
+busy_step code id core running busy = rw (running, busy) refl
+
+abbrev waited : ℕ → HartValue → HartValue
+waited waits core = record core { counts = record core.counts { waits = waits } }
+
+waiting_step : (code : CodeValue) (id : Id) (core : HartValue) → is_running core.ended ≡ true → (core.busy == 0) ≡ true → core.waiting ≡ true
+    → stepped code id core ≡ (waited (raised core.counts.waits) core, None)
+unfolding stepped
+waiting_step code id core running free waiting = rw (running, free, waiting) refl
+
+pub ready_step : (code : CodeValue) (id : Id) (core : HartValue) → IsReady core → stepped code id core ≡ fetched code (word_at code core.pc) id core
+unfolding stepped
+ready_step code id core r = rw (r.running, r.free, r.awake) refl
+
+-- cycles after the end
+pub ended_leap : (k : ℕ) (core : HartValue) → is_running core.ended ≡ false → IsLeap k core core
+ended_leap zero core ended code t = refl
+ended_leap (suc k) core ended code t = one_on code t k core core core (ended_step code (id_at t core 0) core ended) (ended_leap k core ended code (t + 1))
+
+-- cycles of a busy hart
+pub busy_leap : (k : ℕ) (core : HartValue) → is_running core.ended ≡ true → k ≤ core.busy → IsLeap k core (record core { busy = core.busy - k })
+busy_leap zero core running le code t = ap (λ b. (record core { busy = b }, [])) (omega arith)
+busy_leap (suc k) core running le code t =
+    let some : (core.busy == 0) ≡ false = grind arith in
+    let next = record core { busy = core.busy - 1 } in
+    let spent : core.busy - 1 - k ≡ core.busy - suc k = omega arith in
+    one_on code t k core next (record core { busy = core.busy - suc k }) (busy_step code (id_at t core 0) core running some)
+    (busy_leap k next running (omega arith) code (t + 1) ∙ ap (λ b. (record core { busy = b }, [])) spent)
+
+-- cycles of a hart that waits
+waiting_leap : (k : ℕ) (core : HartValue) → is_running core.ended ≡ true → core.busy ≡ 0 → core.waiting ≡ true
+    → IsLeap (suc k) core (waited (capped (core.counts.waits + suc k)) core)
+waiting_leap zero core running free waiting code t =
+    one_on code t 0 core _ _ (waiting_step code (id_at t core 0) core running (rw free refl) waiting) refl
+waiting_leap (suc k) core running free waiting code t =
+    let next = waited (raised core.counts.waits) core in
+    let more : capped (raised core.counts.waits + suc k) ≡ capped (core.counts.waits + suc (suc k)) = grind arith in
+    one_on code t (suc k) core next _ (waiting_step code (id_at t core 0) core running (rw free refl) waiting)
+    (waiting_leap k next running free waiting code (t + 1) ∙ ap (λ w. (waited w core, [])) more)
+
+pub waits_leap : (k : ℕ) (core : HartValue) → 0 < k → is_running core.ended ≡ true → core.busy ≡ 0 → core.waiting ≡ true
+    → IsLeap k core (waited (capped (core.counts.waits + k)) core)
+waits_leap zero core some running free waiting = absurd (omega (arith, some))
+waits_leap (suc k) core some running free waiting = waiting_leap k core running free waiting
+
+-- a hart that waits asks for nothing
+record IsSilentStep (core : HartValue) (out : HartValue × Option Ask) : Type 0 where
+  none : out.1 ≡ None
+  waits : out.0.waiting ≡ true
+
+silent_step : (code : CodeValue) (id : Id) (core : HartValue) → core.waiting ≡ true → IsSilentStep core (stepped code id core)
+silent_step code id core waits = elim (cases_Bool (is_running core.ended)) [
+  | inl running ↦ elim (cases_Bool (core.busy == 0)) [
+    | inl free ↦ subst (IsSilentStep core) (sym (waiting_step code id core running free waits)) (record { none = refl; waits = waits })
+    | inr busy ↦ subst (IsSilentStep core) (sym (busy_step code id core running busy)) (record { none = refl; waits = waits })
+  ]
+  | inr ended ↦ subst (IsSilentStep core) (sym (ended_step code id core ended)) (record { none = refl; waits = waits })
+]
+
+pub silent_while : (code : CodeValue) (t k : ℕ) (core : HartValue) → core.waiting ≡ true → (stretch code t k core).1 ≡ []
+silent_while code t zero core waits = refl
+silent_while code t (suc k) core waits =
+    let one = stepped code (id_at t core 0) core in
+    let silent = silent_step code (id_at t core 0) core waits in
+    ap (λ o. asks_of o ++ (stretch code (t + 1) k one.0).1) silent.none ∙ silent_while code (t + 1) k one.0 silent.waits
+
+-- what leads from one to another, and on
+module _ (code : CodeValue) where
+  abbrev then_on : (t k : ℕ) → HartValue × List Ask → HartValue × List Ask
+  then_on t k now = let rest = stretch code t k now.0 in (rest.0, now.1 ++ rest.1)
+
+  pub stretch-add : (t j k : ℕ) (core : HartValue) → stretch code t (j + k) core ≡ then_on (t + j) k (stretch code t j core)
+  stretch-add t zero k core =
+      let none : 0 + k ≡ k = omega arith in
+      let same : t ≡ t + 0 = omega arith in
+      ap (λ n. stretch code t n core) none ∙ ap (λ s. stretch code s k core) same
+  stretch-add t (suc j) k core =
+      let now = stepped code (id_at t core 0) core in
+      let on = stretch code (t + 1) j now.0 in
+      let rest = stretch code (t + 1 + j) k on.0 in
+      let apart : suc j + k ≡ suc (j + k) = omega arith in
+      let later : t + 1 + j ≡ t + suc j = omega arith in
+      ap (λ n. stretch code t n core) apart
+      ∙ ap (λ r. (r.0, asks_of now.1 ++ r.1)) (stretch-add (t + 1) j k now.0)
+      ∙ ap (λ asks. (rest.0, asks)) (sym (append_assoc (asks_of now.1) on.1 rest.1))
+      ∙ ap (λ s. then_on s k (stretch code t (suc j) core)) later
+
+  -- cycles that ask for nothing go first
+  pub stretch_after : (t j k : ℕ) (core next : HartValue) → stretch code t j core ≡ (next, []) → stretch code t (j + k) core ≡ stretch code (t + j) k next
+  stretch_after t j k core next first = stretch-add t j k core ∙ ap (then_on (t + j) k) first
+
+-- a stretch that asks for nothing asked for nothing before
+front_silent : (code : CodeValue) (t j k : ℕ) (core : HartValue) → (stretch code t (j + k) core).1 ≡ [] → (stretch code t j core).1 ≡ []
+front_silent code t j k core silent = append_nil_left _ _ (ap (λ r. r.1) (sym (stretch-add code t j k core)) ∙ silent)
+
+-- a stretch that asks for nothing
+pub silent_stretch : (code : CodeValue) (from next : ℕ) (old new : HartValue) → from < next → stretch code from (next - from) old ≡ (new, [])
+    → IsStretch code from old new (record { next = next; ask = None })
+silent_stretch code from next old new some silent =
+    let whole : next - from - 1 + 1 ≡ next - from = omega arith in
+    record {
+      after = sym (ap (λ r. r.0) silent);
+      asks = sym (ap (λ r. r.1) silent);
+      last = front_silent code from (next - from - 1) 1 old (ap (λ n. (stretch code from n old).1) whole ∙ ap (λ r. r.1) silent);
+    }
+
+-- a leap is a stretch
+pub leap_stretch : (code : CodeValue) (t k : ℕ) (old new : HartValue) → 0 < k → IsLeap k old new → IsStretch code t old new (record { next = t + k; ask = None })
+leap_stretch code t k old new some leap =
+    let count : t + k - t ≡ k = omega arith in
+    silent_stretch code t (t + k) old new (omega arith) (ap (λ n. stretch code t n old) count ∙ leap code t)
+
+nothing_of : (ask : Option Ask) → is_some ask ≡ false → asks_of ask ≡ []
+nothing_of None h = refl
+nothing_of (Some ask) h = absurd (true≢false h)
+
+pub went_on : (code : CodeValue) (t : ℕ) (old new : HartValue) (end : Stretch) → IsStretch code t old new end → is_some end.ask ≡ false
+    → stretch code t (end.next - t) old ≡ (new, [])
+went_on code t old new end s h =
+    let out = stretch code t (end.next - t) old in
+    ap (λ core. (core, out.1)) (sym s.after) ∙ ap (λ asks. (new, asks)) (sym s.asks ∙ nothing_of end.ask h)
+
+-- one instruction is a stretch
+pub step_stretch : (code : CodeValue) (t : ℕ) (old new : HartValue) (ask : Option Ask) → (new, ask) ≡ stepped code (id_at t old 0) old
+    → IsStretch code t old new (record { next = t + 1; ask = ask })
+step_stretch code t old new ask one =
+    let out : (new, asks_of ask) ≡ stretch code t 1 old = ap (λ r. (r.0, asks_of r.1)) one ∙ ap (λ asks. ((stepped code (id_at t old 0) old).0, asks)) (sym (append-nil _)) in
+    let single : 1 ≡ t + 1 - t = omega arith in
+    let before : t + 1 - t - 1 ≡ 0 = omega arith in
+    let all : (new, asks_of ask) ≡ stretch code t (t + 1 - t) old = out ∙ ap (λ n. stretch code t n old) single in
+    record {
+      after = ap (λ r. r.0) all;
+      asks = ap (λ r. r.1) all;
+      last = ap (λ n. (stretch code t n old).1) before;
+    }
+
+-- a stretch behind one that asked for nothing
+pub stretch_on : (code : CodeValue) (from t : ℕ) (first old new : HartValue) (end : Stretch) → from ≤ t → t < end.next → stretch code from (t - from) first ≡ (old, [])
+    → IsStretch code t old new end → IsStretch code from first new end
+stretch_on code from t first old new end le lt silent s =
+    let far : t - from + (end.next - t) ≡ end.next - from = omega arith in
+    let near : t - from + (end.next - t - 1) ≡ end.next - from - 1 = omega arith in
+    let begin : from + (t - from) ≡ t = omega arith in
+    let on : (k : ℕ) → stretch code from (t - from + k) first ≡ stretch code t k old =
+    λ k. stretch_after code from (t - from) k first old silent ∙ ap (λ n. stretch code n k old) begin in
+    let all : stretch code t (end.next - t) old ≡ stretch code from (end.next - from) first = sym (on (end.next - t)) ∙ ap (λ n. stretch code from n first) far in
+    record {
+      after = s.after ∙ ap (λ r. r.0) all;
+      asks = s.asks ∙ ap (λ r. r.1) all;
+      last = ap (λ n. (stretch code from n first).1) (sym near) ∙ ap (λ r. r.1) (on (end.next - t - 1)) ∙ s.last;
+    }
+
+module _ (code : CodeValue) where
+  abbrev ticks_on : (t k : ℕ) → CoreValue HartValue × List Ask → CoreValue HartValue × List Ask
+  ticks_on t k now = let rest = ticks_by (tick code) t k now.0 in (rest.0, now.1 ++ rest.1)
+
+  pub ticks-add : (t j k : ℕ) (core : CoreValue HartValue) → ticks_by (tick code) t (j + k) core ≡ ticks_on (t + j) k (ticks_by (tick code) t j core)
+  ticks-add t zero k core =
+      let none : 0 + k ≡ k = omega arith in
+      let same : t ≡ t + 0 = omega arith in
+      ap (λ n. ticks_by (tick code) t n core) none ∙ ap (λ s. ticks_by (tick code) s k core) same
+  ticks-add t (suc j) k core =
+      let now = tick_by (tick code) t core in
+      let on = ticks_by (tick code) (t + 1) j now.0 in
+      let rest = ticks_by (tick code) (t + 1 + j) k on.0 in
+      let apart : suc j + k ≡ suc (j + k) = omega arith in
+      let later : t + 1 + j ≡ t + suc j = omega arith in
+      ap (λ n. ticks_by (tick code) t n core) apart
+      ∙ ap (λ r. (r.0, now.1 ++ r.1)) (ticks-add (t + 1) j k now.0)
+      ∙ ap (λ asks. (rest.0, asks)) (sym (append_assoc now.1 on.1 rest.1))
+      ∙ ap (λ s. ticks_on s k (ticks_by (tick code) t (suc j) core)) later
+
+  pub ticks_after : (t j k : ℕ) (core next : CoreValue HartValue) → ticks_by (tick code) t j core ≡ (next, []) → ticks_by (tick code) t (j + k) core ≡ ticks_by (tick code) (t + j) k next
+  ticks_after t j k core next first = ticks-add t j k core ∙ ap (ticks_on (t + j) k) first
+
+  abbrev beside : List Post → HartValue × List Ask → CoreValue HartValue × List Ask
+  beside inbox r = (record { inner = r.0; inbox = inbox }, r.1)
+
+  -- a tick in which no post is due
+  tick_of_step : (t : ℕ) (core : HartValue) (inbox : List Post) → AllByRecursion (λ p. t < p.due) inbox →
+      tick_by (tick code) t (record { inner = core; inbox = inbox }) ≡ beside inbox (let now = stepped code (id_at t core 0) core in (now.0, asks_of now.1))
+  unfolding tick
+  tick_of_step t core inbox later =
+      ap (λ due. (record { inner = (tick code core t due).0; inbox = later_than t inbox }, (tick code core t due).1)) (none_due t inbox later)
+      ∙ ap (λ left. beside left (let now = stepped code (id_at t core 0) core in (now.0, asks_of now.1))) (all_later t inbox later)
+
+  later_by : (t due : ℕ) (inbox : List Post) → t < due → AllByRecursion (λ p. due ≤ p.due) inbox → AllByRecursion (λ p. t < p.due) inbox
+  later_by t due [] lt h = tt
+  later_by t due (p ∷ inbox) lt h = (omega (arith, h.0), later_by t due inbox lt h.1)
+
+  -- ticks in which no post is due
+  pub ticks_of_stretch : (t k due : ℕ) (core : HartValue) (inbox : List Post) → AllByRecursion (λ p. due ≤ p.due) inbox → t + k ≤ due →
+      ticks_by (tick code) t k (record { inner = core; inbox = inbox }) ≡ beside inbox (stretch code t k core)
+  ticks_of_stretch t zero due core inbox later le = refl
+  ticks_of_stretch t (suc k) due core inbox later le =
+      let now = stepped code (id_at t core 0) core in
+      ap (λ r. let rest = ticks_by (tick code) (t + 1) k r.0 in (rest.0, r.1 ++ rest.1)) (tick_of_step t core inbox (later_by t due inbox (omega arith) later))
+      ∙ ap (λ rest. (rest.0, asks_of now.1 ++ rest.1)) (ticks_of_stretch (t + 1) k due now.0 inbox later (omega arith))
+
+-- a stretch is so many ticks
+pub stretch_ticks : (code : CodeValue) (t due : ℕ) (old new : HartValue) (inbox : List Post) (end : Stretch) (sent out : List Ask)
+    → AllByRecursion (λ p. due ≤ p.due) inbox → t < end.next → end.next ≤ due → IsStretch code t old new end → out ≡ sent ++ asks_of end.ask
+    → AreTicks code t end.next (record { inner = old; inbox = inbox }) (record { inner = new; inbox = inbox }) sent out
+stretch_ticks code t due old new inbox end sent out later lt le s sends =
+    let core : CoreValue HartValue = record { inner = old; inbox = inbox } in
+    let all : ticks_by (tick code) t (end.next - t) core ≡ beside code inbox (stretch code t (end.next - t) old) =
+    ticks_of_stretch code t (end.next - t) due old inbox later (omega (arith, lt, le)) in
+    let front : ticks_by (tick code) t (end.next - t - 1) core ≡ beside code inbox (stretch code t (end.next - t - 1) old) =
+    ticks_of_stretch code t (end.next - t - 1) due old inbox later (omega (arith, lt, le)) in
+    record {
+      after = ap (λ h. record { inner = h; inbox = inbox }) s.after ∙ sym (ap (λ r. r.0) all);
+      asks = sends ∙ ap (λ asks. sent ++ asks) (s.asks ∙ sym (ap (λ r. r.1) all));
+      last = ap (λ r. r.1) front ∙ s.last;
+    }
+
+-- one tick
+pub one_tick : (code : CodeValue) (t : ℕ) (old new : CoreValue HartValue) (sent out : List Ask)
+    → new ≡ (tick_by (tick code) t old).0 → out ≡ sent ++ (tick_by (tick code) t old).1 → AreTicks code t (t + 1) old new sent out
+one_tick code t old new sent out after asks =
+    let single : 1 ≡ t + 1 - t = omega arith in
+    let before : t + 1 - t - 1 ≡ 0 = omega arith in
+    record {
+      after = after ∙ ap (λ n. (ticks_by (tick code) t n old).0) single;
+      asks = asks ∙ ap (λ a. sent ++ a) (sym (append-nil (tick_by (tick code) t old).1) ∙ ap (λ n. (ticks_by (tick code) t n old).1) single);
+      last = ap (λ n. (ticks_by (tick code) t n old).1) before;
+    }
+
+-- no ticks yet, or some of which the last alone may have sent something
+pub record AreTicksSoFar (code : CodeValue) (t next : ℕ) (old new : CoreValue HartValue) (sent out : List Ask) : Type 0 where
+  pub after : new ≡ (ticks_by (tick code) t (next - t) old).0
+  pub asks : out ≡ sent ++ (ticks_by (tick code) t (next - t) old).1
+  pub last : t < next → (ticks_by (tick code) t (next - t - 1) old).1 ≡ []
+
+pub no_ticks : (code : CodeValue) (t : ℕ) (core : CoreValue HartValue) (sent : List Ask) → AreTicksSoFar code t t core core sent sent
+no_ticks code t core sent =
+    let nowhere : 0 ≡ t - t = omega arith in
+    record {
+      after = ap (λ n. (ticks_by (tick code) t n core).0) nowhere;
+      asks = sym (append-nil sent) ∙ ap (λ n. sent ++ (ticks_by (tick code) t n core).1) nowhere;
+      last = λ lt. absurd (omega (arith, lt));
+    }
+
+-- nothing was sent where the list is as long as it was
+nothing_sent : (sent new out : List Ask) → out ≡ sent ++ new → length out ≡ length sent → new ≡ []
+nothing_sent sent new out is same =
+    let long : length out ≡ length sent + length new = ap length is ∙ length-append sent new in
+    nil_from_length new (omega (arith, long, same))
+
+pub more_ticks : (code : CodeValue) (t mid next : ℕ) (old now new : CoreValue HartValue) (sent middle out : List Ask)
+    → AreTicksSoFar code t mid old now sent middle → length middle ≡ length sent → t ≤ mid → mid < next → AreTicks code mid next now new middle out
+    → AreTicksSoFar code t next old new sent out
+more_ticks code t mid next old now new sent middle out before silent le lt more =
+    let first = ticks_by (tick code) t (mid - t) old in
+    let none : first.1 ≡ [] = nothing_sent sent first.1 middle before.asks silent in
+    let so_far : first ≡ (now, []) = ap (λ core. (core, first.1)) (sym before.after) ∙ ap (λ asks. (now, asks)) none in
+    let begin : t + (mid - t) ≡ mid = omega (arith, le) in
+    let far : mid - t + (next - mid) ≡ next - t = omega (arith, le, lt) in
+    let near : mid - t + (next - mid - 1) ≡ next - t - 1 = omega (arith, le, lt) in
+    let on : (k : ℕ) → ticks_by (tick code) mid k now ≡ ticks_by (tick code) t (mid - t + k) old =
+    λ k. sym (ticks_after code t (mid - t) k old now so_far ∙ ap (λ n. ticks_by (tick code) n k now) begin) in
+    let all : ticks_by (tick code) mid (next - mid) now ≡ ticks_by (tick code) t (next - t) old = on (next - mid) ∙ ap (λ n. ticks_by (tick code) t n old) far in
+    let same : middle ≡ sent = before.asks ∙ ap (λ asks. sent ++ asks) none ∙ append-nil sent in
+    record {
+      after = more.after ∙ ap (λ r. r.0) all;
+      asks = more.asks ∙ ap (λ s. s ++ (ticks_by (tick code) mid (next - mid) now).1) same ∙ ap (λ r. sent ++ r.1) all;
+      last = λ some. sym (ap (λ n. (ticks_by (tick code) t n old).1) near) ∙ sym (ap (λ r. r.1) (on (next - mid - 1))) ∙ more.last;
+    }
+
+-- a core is quiet for so long
+record IsRest (code : CodeValue) (t most k : ℕ) (core : HartValue) : Type 0 where
+  within : k ≤ most
+  silent : (stretch code t k core).1 ≡ []
+
+rests : (code : CodeValue) (t most : ℕ) (core : HartValue) → IsRest code t most (rest_of core most) core
+rests code t most core = elim (cases_Bool (is_running core.ended)) [
+  | inl running ↦ elim (cases_Bool core.waiting) [
+    | inl waits ↦
+        let all : rest_of core most ≡ most = rw (running, waits) refl in
+        subst (λ k. IsRest code t most k core) (sym all) (record { within = omega arith; silent = silent_while code t most core waits })
+    | inr awake ↦
+        let some : rest_of core most ≡ min core.busy most = rw (running, awake) refl in
+        subst (λ k. IsRest code t most k core) (sym some) (record { within = grind arith; silent = ap (λ r. r.1) (busy_leap (min core.busy most) core running (grind arith) code t) })
+  ]
+  | inr ended ↦
+      let all : rest_of core most ≡ most = rw ended refl in
+      subst (λ k. IsRest code t most k core) (sym all) (record { within = omega arith; silent = ap (λ r. r.1) (ended_leap most core ended code t) })
+]
+
+quiet_for : (code : CodeValue) (t k due : ℕ) (core : HartValue) (inbox : List Post) → AllByRecursion (λ p. due ≤ p.due) inbox → k ≤ due - t
+    → (stretch code t k core).1 ≡ [] → (ticks_by (tick code) t k (record { inner = core; inbox = inbox })).1 ≡ []
+quiet_for code t zero due core inbox later le silent = refl
+quiet_for code t (suc k) due core inbox later le silent =
+    let before : t + suc k ≤ due = omega (arith, le) in
+    ap (λ r. r.1) (ticks_of_stretch code t (suc k) due core inbox later before) ∙ silent
+
+pub quiet_ticks : (code : CodeValue) (t due most k : ℕ) (core : HartValue) (inbox : List Post) → AllByRecursion (λ p. due ≤ p.due) inbox → most ≡ due - t
+    → k ≡ rest_of core most → (ticks_by (tick code) t k (record { inner = core; inbox = inbox })).1 ≡ []
+quiet_ticks code t due most k core inbox later count is =
+    let rest = rests code t most core in
+    ap (λ n. (ticks_by (tick code) t n (record { inner = core; inbox = inbox })).1) is
+    ∙ quiet_for code t (rest_of core most) due core inbox later (omega (arith, rest.within, count)) rest.silent

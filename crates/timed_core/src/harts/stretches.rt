@@ -1,0 +1,119 @@
+//! Cycles of a hart in which no post is due: those in which it executes nothing are gone over in one step.
+ghost use Rattle.std.specs.Prelude.{◌≡◌, ◌+◌, ◌-◌, ◌<◌, ◌≤◌, [], IsSome};
+ghost use Rattle.slack_base.specs.Growing.{capped};
+ghost use Rattle.slack_base.specs.declared.bounds.TheConstants.{TOP};
+ghost use Rattle.timed_core.specs.Ticks.{id_at};
+ghost use Rattle.timed_core.specs.Stretches.{IsStretch, IsLeap, IsReady, rest_of};
+
+use crate::code::Code;
+use crate::harts::Hart;
+use slack_base::{Ask, CoreEnd, Id, capped};
+
+/// The end of a stretch: the cycle after it, and what was asked for in its last cycle.
+#[derive(Clone, Copy)]
+pub struct Stretch {
+    pub next: u64,
+    pub ask: Option<Ask>,
+}
+
+impl Hart {
+    /// For how many of so many cycles the hart surely asks for nothing, if no post comes in.
+    pub fn rest(&self, most: u64) -> u64
+        ensures { result ≡ rest_of self.now most }
+    {
+        if self.ended == CoreEnd::Running && !self.waiting {
+            most.min(u64::from(self.busy))
+        } else {
+            most
+        }
+    }
+
+    /// Goes over cycles in which no instruction is executed, up to so many: how many they are.
+    fn leap(&mut self, most: u64) -> u64
+        requires { 0 < most }
+        ensures within { result ≤ most }
+        ensures leap { IsLeap result self.old self.new }
+        ensures ready { result ≡ 0 → IsReady self.new }
+    {
+        if !self.is_running() {
+            return most;
+        }
+        if self.busy > 0 {
+            let spent = most.min(u64::from(self.busy));
+            self.spend(spent as u32);
+            return spent;
+        }
+        if self.waiting {
+            self.wait(most);
+            return most;
+        }
+        0
+    }
+
+    /// Spends cycles of those that the last instruction still takes.
+    fn spend(&mut self, cycles: u32)
+        requires { cycles ≤ self.old.busy }
+        ensures { self.new ≡ record self.old { busy = self.old.busy - cycles } }
+    {
+        self.busy -= cycles;
+    }
+
+    /// Waits for some cycles more.
+    fn wait(&mut self, cycles: u64)
+        ensures { self.new ≡ record self.old { counts = record self.old.counts { waits = capped (self.old.counts.waits + cycles) } } }
+    {
+        self.counts.waits = capped(self.counts.waits.saturating_add(cycles));
+    }
+
+    /// The cycles from one on, up to another, or to the first in which something is asked for. No post is due in them.
+    pub fn stretch(&mut self, code: &Code, from: u64, until: u64) -> Stretch
+        requires order { from < until }
+        requires top { until ≤ TOP }
+        ensures next { (from < result.next) × (result.next ≤ until) }
+        ensures stretch { IsStretch code.now from self.old self.new result }
+        ensures stops { result.next < until → IsSome result.ask }
+    {
+        let mut next = from;
+        while next < until {
+            let part = self.part(code, next, until);
+            if part.ask.is_some() {
+                return part;
+            }
+            next = part.next;
+        }
+        Stretch { next, ask: None }
+    }
+
+    /// Some of the cycles from one on, before another: those in which nothing is executed, or the one in which an
+    /// instruction is.
+    fn part(&mut self, code: &Code, from: u64, until: u64) -> Stretch
+        requires order { from < until }
+        requires top { until ≤ TOP }
+        ensures next { (from < result.next) × (result.next ≤ until) }
+        ensures stretch { IsStretch code.now from self.old self.new result }
+    {
+        let gone = self.leap(until - from);
+        if gone > 0 {
+            return Stretch {
+                next: from + gone,
+                ask: None,
+            };
+        }
+        let ask = self.fetch(code, self.first_id(from));
+        Stretch {
+            next: from + 1,
+            ask,
+        }
+    }
+
+    /// The id of the first ask in a cycle.
+    fn first_id(&self, cycle: u64) -> Id
+        ensures { result ≡ id_at cycle self.now 0 }
+    {
+        Id {
+            cycle,
+            core: self.number,
+            number: 0,
+        }
+    }
+}

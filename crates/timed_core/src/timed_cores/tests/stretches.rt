@@ -1,0 +1,108 @@
+//! Cycles that are gone over at once, against as many ticks.
+use super::marks::what_is_told;
+use super::*;
+
+/// mul x5, x8, x8
+const MUL_X5: u32 = 0x0284_02b3;
+/// div x5, x8, x8
+const DIV_X5: u32 = 0x0284_42b3;
+
+/// Where the cycles end.
+const END: u32 = 24;
+
+/// A program and a post; and the cycle after the first that sends something, which is the end where none does.
+type Case = (&'static str, [u32; 3], u64, PostKind, u64);
+
+const CASES: [Case; 6] = [
+    ("a load asks", [LUI_X8, LW_X5, 0], 7, REPLY, 2),
+    (
+        "a busy core is snooped",
+        [LUI_X8, DIV_X5, 0],
+        9,
+        PostKind::SnoopShare,
+        10,
+    ),
+    (
+        "a busy core goes on",
+        [MUL_X5, DIV_X5, MUL_X5],
+        4,
+        PostKind::Invalidate,
+        24,
+    ),
+    (
+        "an ended core is snooped",
+        [0, 0, 0],
+        5,
+        PostKind::SnoopOwn,
+        6,
+    ),
+    ("an ended core stays", [0, 0, 0], 30, PostKind::SnoopOwn, 24),
+    (
+        "a core that never waits",
+        [LUI_X8, MUL_X5, LUI_X8],
+        24,
+        PostKind::Retry,
+        24,
+    ),
+];
+
+/// A core that went on to the end in two pieces or in one, and the cycle after the first of them.
+#[derive(Drop)]
+struct Pieces {
+    seen: Seen,
+    next: u64,
+}
+
+fn in_pieces(rt: &impl Abort, alloc: Global, words: &[u32], post: Post) -> Result<Pieces, Fail> {
+    let config = config(1)?;
+    let code = Code::of(alloc, &image_of(rt, alloc, words)?, &config)?;
+    let mut core = TimedCore::new(alloc, 0, &config, 4096)?;
+    core.put(post)?;
+    let mut asks = AskList::new(alloc);
+    let next = core.advance(&code, 0, u64::from(END), &mut asks)?;
+    if next < u64::from(END) {
+        core.advance(&code, next, u64::from(END), &mut asks)?;
+    }
+    Ok(Pieces {
+        seen: Seen { core, asks },
+        next,
+    })
+}
+
+#[test]
+fn leaps_are_ticks(rt: HostRuntime) -> Result<(), Fail> {
+    for (text, words, due, kind, next) in &CASES {
+        let post = post(*due, 256, *kind);
+        let pieces = in_pieces(&rt, rt.alloc(), words, post)?;
+        let seen = run(&rt, rt.alloc(), words, &[post], END)?;
+        assert_eq!(rt; pieces.next, *next, "{text}");
+        assert_eq!(rt;
+            what_is_told(&pieces.seen.core),
+            what_is_told(&seen.core),
+            "{text}"
+        );
+        assert_eq!(rt; pieces.seen.asks.as_slice(), seen.asks.as_slice(), "{text}");
+    }
+    Ok(())
+}
+
+/// A program, the due of a post, and for how many cycles the core is quiet after cycle 1.
+type Rest = (&'static str, [u32; 2], u64, u64);
+
+const RESTS: [Rest; 5] = [
+    ("ready", [LUI_X8, LUI_X8], 9, 0),
+    ("busy for 15 cycles more", [LUI_X8, DIV_X5], 40, 15),
+    ("busy, and a post comes first", [LUI_X8, DIV_X5], 9, 7),
+    ("waiting", [LUI_X8, LW_X5], 40, 38),
+    ("ended", [0, 0], 40, 38),
+];
+
+#[test]
+fn a_core_is_quiet_so_long(rt: HostRuntime) -> Result<(), Fail> {
+    for (text, words, due, cycles) in &RESTS {
+        let posts = [post(*due, 256, PostKind::Retry)];
+        let seen = run(&rt, rt.alloc(), words, &posts, 2)?;
+        assert_eq!(rt; seen.core.quiet(2), *cycles, "{text}");
+    }
+    Ok(())
+}
