@@ -71,6 +71,20 @@ impl Target for RvTarget {
         core.tick(&self.code, cycle, out)
     }
 
+    fn advance(
+        &self,
+        core: &mut TimedCore,
+        from: u64,
+        until: u64,
+        out: &mut AskList,
+    ) -> Result<u64, OutOfMemory> {
+        core.advance(&self.code, from, until, out)
+    }
+
+    fn quiet(&self, core: &TimedCore, from: u64) -> u64 {
+        core.quiet(from)
+    }
+
     fn serve(&self, chan: &mut Channel, ask: &Ask, out: &mut PostList) -> Result<(), OutOfMemory> {
         chan.serve(ask, out)
     }
