@@ -1,3 +1,4 @@
+pub mod Alone
 pub mod Exchanging
 pub mod Leaping
 pub mod Quieting

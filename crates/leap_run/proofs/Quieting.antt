@@ -1,10 +1,10 @@
 -- A core that sends nothing through some cycles sends nothing through fewer, and what it sends in more it sends later.
-use Rattle.std.proofs.Common.{◌≡◌, ◌∙◌, ℕ, ◌+◌, ◌-◌, ◌≤◌, ◌<◌, List, [], ◌∷◌, ◌++◌, map, take, get_or, length, refl, sym, ap, subst, arith}
+use Rattle.std.proofs.Common.{◌≡◌, ◌≢◌, ◌∙◌, ℕ, ◌+◌, ◌-◌, ◌≤◌, ◌<◌, zero, suc, min, ◌⊎◌, inl, inr, ⊎_elim, List, [], ◌∷◌, ◌++◌, map, get_or, length, refl, sym, ap, subst, arith}
 use Rattle.std.specs.List.{All, AllByRecursion as Each}
-use Rattle.std.proofs.lemmas.List.{length-map, take_more}
-use Rattle.std.proofs.lemmas.List.Elements.{All-nil, All-cons, All-append}
+use Rattle.std.proofs.lemmas.List.{length-map, get_or_default}
 use Rattle.slack_base.specs.Inboxes.{CoreValue}
 use Rattle.slack_base.specs.declared.bounds.TheConstants.{TOP}
+use Rattle.slack_base.specs.declared.messages.Ask.{Ask}
 use Rattle.slack_base.specs.Messages.{id_of}
 use Rattle.target_law.specs.Cycles.{ticks_of}
 use Rattle.target_law.specs.Laws.{Laws}
@@ -30,6 +30,22 @@ core_here rules owns view cores i core within is are =
     core_at rules owns i (view core)
     (subst (IsCoreOf rules owns i) (get-map view cores i core ∙ ap view (sym is)) (numbered_get (IsCoreOf rules owns) 0 i i (map view cores) (view core) (omega arith) inside are))
 
+pub before : (q k : ℕ) → (q < k) ⊎ (k ≤ q)
+before q zero = inr (omega arith)
+before zero (suc k) = inl (omega arith)
+before (suc q) (suc k) = ⊎_elim (λ low. inl (omega arith)) (λ low. inr (omega arith)) (before q k)
+
+before_or_at : (k i : ℕ) → k < i + 1 → (k < i) ⊎ (k ≡ i)
+before_or_at zero zero h = inr refl
+before_or_at zero (suc i) h = inl (omega arith)
+before_or_at (suc k) zero h = absurd (omega arith)
+before_or_at (suc k) (suc i) h = ⊎_elim (λ low. inl (omega arith)) (λ at. inr (ap suc at)) (before_or_at k i (omega arith))
+
+-- each core of a list, of whatever number
+pub cores_each : {Inner Chan C : Type 0} (rules : Rules Inner Chan) (owns : Owns Inner Chan) (view : C → CoreValue Inner) (cores : List C)
+    → AllNumbered (IsCoreOf rules owns) 0 (map view cores) → All (λ core. IsCore rules owns (view core)) cores
+cores_each rules owns view cores are k d low = core_here rules owns view cores k (get_or cores k d) low (get_or_default cores k d (get_or cores k d) low) are
+
 module _ {Inner Chan : Type 0} (rules : Rules Inner Chan) where
   -- through fewer cycles
   pub quiet_less : (t p q : ℕ) (core : CoreValue Inner) → p ≤ q → IsQuiet rules t q core → IsQuiet rules t p core
@@ -38,16 +54,57 @@ module _ {Inner Chan : Type 0} (rules : Rules Inner Chan) where
       let both = ticks_on rules t p q (q - p) (t + p) core mine.0 [] mine.1 (omega arith) refl refl refl in
       record { silent = nil_front mine.1 (ticks_of rules (t + p) (q - p) mine.0).1 (both.1 ∙ quiet.silent) }
 
+  -- a core that sent nothing yet goes on from clock c to u
+  pub record HasGoneOn (t u : ℕ) (first new : CoreValue Inner) (asks : List Ask) : Type 0 where
+    pub core : new ≡ (ticks_of rules t (u - t) first).0
+    pub asks_are : asks ≡ (ticks_of rules t (u - t) first).1
+    pub last : IsQuiet rules t (u - t - 1) first
+
+  pub gone_on : (t c u : ℕ) (first core new : CoreValue Inner) (asks more : List Ask) → t < c → c < u → core ≡ (ticks_of rules t (c - t) first).0 → asks ≡ (ticks_of rules t (c - t) first).1
+      → asks ≡ [] → new ≡ (ticks_of rules c (u - c) core).0 → more ≡ asks ++ (ticks_of rules c (u - c) core).1 → (ticks_of rules c (u - c - 1) core).1 ≡ [] → HasGoneOn t u first new more
+  gone_on t c u first core new asks more low high core_is asks_are none new_is more_is last =
+      let next = ticks_on rules t (c - t) (u - t) (u - c) c first core [] asks (omega arith) (omega arith) core_is asks_are in
+      let then = ticks_on rules t (c - t) (u - t - 1) (u - c - 1) c first core [] asks (omega arith) (omega arith) core_is asks_are in
+      record {
+        core = new_is ∙ next.0;
+        asks_are = more_is ∙ next.1;
+        last = record { silent = sym then.1 ∙ ap (λ xs. xs ++ (ticks_of rules c (u - c - 1) core).1) none ∙ last };
+      }
+
   -- one core more
   module _ {C : Type 0} (view : C → CoreValue Inner) (t : ℕ) where
     abbrev Quiet : ℕ → C → Type 0
     Quiet q core = IsQuiet rules t q (view core)
 
-    pub quiet_more : (i p q r : ℕ) (cores : List C) (d : C) → i < length cores → r ≤ p → r ≤ q → All (Quiet p) (take i cores) → Quiet q (get_or cores i d) → All (Quiet r) (take (i + 1) cores)
-    quiet_more i p q r cores d within low here all own =
-        subst (All (Quiet r)) (sym (take_more cores i d within))
-        (All-append (Quiet r) (take i cores) (get_or cores i d ∷ []) (λ k e l. quiet_less t r p (view (get_or (take i cores) k e)) low (all k e l))
-        (All-cons (Quiet r) (get_or cores i d) [] (quiet_less t r q (view (get_or cores i d)) here own) (All-nil (Quiet r))))
+    -- what is known of the first i cores: for how many cycles all of them are quiet, and all but the one at a place
+    pub record LooksAhead (i : ℕ) (cores : List C) (all others lone : ℕ) : Type 0 where
+      pub all_quiet : (k : ℕ) (d : C) → k < i → Quiet all (get_or cores k d)
+      pub others_quiet : (k : ℕ) (d : C) → k < i → k ≢ lone → Quiet others (get_or cores k d)
+      pub within : lone ≤ i - 1
+
+    pub looks_none : (cores : List C) (all others : ℕ) → LooksAhead 0 cores all others 0
+    looks_none cores all others = record { all_quiet = λ k d low. absurd (omega arith); others_quiet = λ k d low _. absurd (omega arith); within = omega arith }
+
+    module _ (i : ℕ) (cores : List C) (core : C) (low : i < length cores) (q : ℕ) (is : core ≡ get_or cores i core) (quiet : Quiet q core) (all others lone : ℕ) (so_far : LooksAhead i cores all others lone) where
+      -- the next core
+      own : (k : ℕ) (d : C) → k ≡ i → Quiet q (get_or cores k d)
+      own k d at = subst (Quiet q) (is ∙ get_or_default cores i core d low ∙ ap (λ n. get_or cores n d) (sym at)) quiet
+
+      pub looks_sooner : q < all → LooksAhead (i + 1) cores q all i
+      looks_sooner sooner = record {
+        all_quiet = λ k d below. ⊎_elim (λ (old : k < i). quiet_less t q all (view (get_or cores k d)) (omega arith) (so_far.all_quiet k d old)) (λ (at : k ≡ i). own k d at) (before_or_at k i below);
+        others_quiet = λ k d below other. ⊎_elim (λ (old : k < i). so_far.all_quiet k d old) (λ (at : k ≡ i). absurd (other at)) (before_or_at k i below);
+        within = omega arith;
+      }
+
+      pub looks_later : all ≤ q → LooksAhead (i + 1) cores all (min others q) lone
+      looks_later later = record {
+        all_quiet = λ k d below. ⊎_elim (λ (old : k < i). so_far.all_quiet k d old) (λ (at : k ≡ i). quiet_less t all q (view (get_or cores k d)) later (own k d at)) (before_or_at k i below);
+        others_quiet = λ k d below other.
+            ⊎_elim (λ (old : k < i). quiet_less t (min others q) others (view (get_or cores k d)) (omega arith) (so_far.others_quiet k d old other))
+            (λ (at : k ≡ i). quiet_less t (min others q) q (view (get_or cores k d)) (omega arith) (own k d at)) (before_or_at k i below);
+        within = let before = so_far.within in omega arith;
+      }
 
   module _ (owns : Owns Inner Chan) (laws : Laws rules owns) where
     -- what a core sends that is quiet at first

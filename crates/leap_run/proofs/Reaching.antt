@@ -1,5 +1,5 @@
 -- What a leap leaves is what lockstep leaves.
-use Rattle.std.proofs.Common.{◌≡◌, ◌∙◌, ℕ, ◌+◌, ◌-◌, ◌<◌, ◌≤◌, min, zero, suc, List, [], ◌∷◌, ◌⊎◌, inl, inr, map, length, refl, sym, ap, subst, arith, ⊎_elim}
+use Rattle.std.proofs.Common.{◌≡◌, ◌∙◌, ℕ, ◌+◌, ◌-◌, ◌<◌, ◌≤◌, zero, suc, List, [], ◌∷◌, ◌⊎◌, inl, inr, map, length, refl, sym, ap, subst, arith, ⊎_elim}
 use Rattle.std.specs.List.{All, AllByRecursion as Each}
 use Rattle.std.specs.List.Sorted.{IsPermutation}
 use Rattle.std.proofs.lemmas.List.{length-map}
@@ -57,24 +57,18 @@ module _ {Inner Chan : Type 0} (rules : Rules Inner Chan) (owns : Owns Inner Cha
       each_append IsSoon (ticks_of rules t k core).1 (asks_in rules t k cores) (one_soon n core are.0 quiet.0) (all_soon (n + 1) cores are.1 quiet.1)
 
 module _ {Inner Chan C D : Type 0} (rules : Rules Inner Chan) (owns : Owns Inner Chan) (laws : Laws rules owns) (V : C → CoreValue Inner) (W : D → Chan)
-    (from q end until : ℕ) (cores : List C) (chans : List D) (low : from < until) (top : until ≤ TOP) (reach : end ≡ min until (from + q + rules.lookahead))
+    (from q end : ℕ) (cores : List C) (chans : List D) (low : from < end) (top : end ≤ TOP) (reach : end ≤ from + q + rules.lookahead)
     (is : IsProper rules owns (record { clock = from; cores = map V cores; chans = map W chans }))
     (fresh : IsPunctual {Inner = Inner} {Chan = Chan} (record { clock = from; cores = map V cores; chans = map W chans }))
     (quiet : All (λ core. IsQuiet rules from q (V core)) cores) where
   abbrev first : StateValue Inner Chan
   first = record { clock = from; cores = map V cores; chans = map W chans }
 
-  pub ahead : from < end
-  ahead = let some = laws.soon in omega arith
-
-  pub within : end ≤ until
-  within = omega arith
-
   abbrev k : ℕ
   k = end - from
 
   long : end ≡ from + k
-  long = let some = ahead in omega arith
+  long = omega arith
 
   sent_soon : Each (IsSoon rules owns laws from q k end long (omega arith) (omega arith)) (asks_in rules from k (map V cores))
   sent_soon = all_soon rules owns laws from q k end long (omega arith) (omega arith) 0 (map V cores) is.cores (each_map (IsQuiet rules from q) V cores (recursion_from_All (λ core. IsQuiet rules from q (V core)) cores quiet))

@@ -1,5 +1,5 @@
 -- Several cycles gone over at once.
-use Rattle.std.specs.Prelude.{◌≡◌, ℕ, ◌+◌, ◌≤◌, List, [], map}
+use Rattle.std.specs.Prelude.{◌≡◌, ◌≢◌, ℕ, ◌+◌, ◌<◌, ◌≤◌, List, [], map, length, slice_index_or, All}
 use Rattle.std.specs.List.{flat_map, AllByRecursion as Each}
 use Rattle.std.specs.List.Sorted.{IsPermutation, IsSortedByKey}
 use Rattle.slack_base.specs.declared.messages.Ask.{Ask}
@@ -9,6 +9,10 @@ use Rattle.slack_base.specs.Stamps.{id_cmp}
 use Rattle.target_law.specs.Cycles.{StateValue, ticks_of, through, delivered}
 use Rattle.target_law.specs.Rules.{Rules}
 use Rattle.target_law.specs.Served.{AreRising}
+
+-- so it is of each item but the one at a place
+abbrev pub AllBut : {X : Type 0} → (place : ℕ) → (X → Type 0) → List X → Type 0
+AllBut place P xs = (k : ℕ) (d : _) → k < length xs → k ≢ place → P (slice_index_or xs k d)
 
 module _ {Inner Chan : Type 0} (rules : Rules Inner Chan) where
   -- the cores after k cycles from clock t, through which each of them ticks by itself
@@ -22,6 +26,13 @@ module _ {Inner Chan : Type 0} (rules : Rules Inner Chan) where
   -- the core surely sends nothing in q cycles from clock t, if no post comes in
   pub record IsQuiet (t q : ℕ) (core : CoreValue Inner) : Type 0 where
     pub silent : (ticks_of rules t q core).1 ≡ []
+
+  -- cores that tick by themselves from a clock on may go to this clock: each is quiet at first, for so long that what it
+  -- sends then is answered no sooner than the clock
+  pub record MayReach {C : Type 0} (view : C → CoreValue Inner) (from clock : ℕ) (cores : List C) : Type 0 where
+    pub quiet : ℕ
+    pub silent : All (λ core. IsQuiet from quiet (view core)) cores
+    pub soon : clock ≤ from + quiet + rules.lookahead
 
   -- k cycles gone over at once: each core ticks through them by itself; then these asks are served, each on its channel,
   -- all channels are closed, and the posts delivered

@@ -4,7 +4,9 @@
 pub mod laws;
 mod leaps;
 mod messages;
+mod outlook;
 pub mod runs;
+mod sweeps;
 
 pub use laws::law_of_leaps;
 pub use runs::{run, run_to};

@@ -1,5 +1,5 @@
-use Rattle.std.proofs.Common.{◌≡◌, ◌∙◌, ◌+◌, ◌-◌, ◌++◌, min, map, ap}
-use Rattle.leap_run.specs.Leaps.{asks_in}
+use Rattle.std.proofs.Common.{◌≤◌, arith}
+use Rattle.slack_base.specs.declared.bounds.TheConstants.{TOP}
 use Rattle.leap_run.proofs.Reaching.{asks_ok, cores_ok, after_none, after_exchange}
 use Rattle.leap_run.proofs.leaps.leap.Goals as goal
 
@@ -12,12 +12,12 @@ exchange-requires-clause-cores g c κs within =
     let V = g.T.Target.values.core in
     let W = g.T.Target.values.chan in
     let from = c.args.from in
-    let end = c.horizon-end.result in
-    let reach : end ≡ min c.args.until (from + c.quiet_cycles-quiet.result + rs.lookahead) = c.horizon-end.ensures ∙ ap (λ n. min c.args.until (from + c.quiet_cycles-quiet.result + n)) c.lookahead.ensures in
-    let sent = c.advance_all.new.asks in
-    let own : sent ≡ asks_in rs from (end - from) (map V c.args.cores.now) = c.in_ok-advance_all.ensures.asks ∙ ap (λ xs. xs ++ asks_in rs from (end - from) (map V c.args.cores.now)) c.requires.asks in
-    cores_ok rs owns laws V W from c.quiet_cycles-quiet.result end c.args.until c.args.cores.now c.args.chans.now c.requires.order c.requires.top reach c.requires.proper c.requires.punctual c.quiet_cycles-quiet.ensures
-    sent own c.advance_all.new.cores c.in_ok-advance_all.ensures.cores
+    let end = c.in_ok-end.end in
+    let may = c.in_ok-end.ensures.reach in
+    let ahead = c.in_ok-end.ensures.ahead in
+    let top : end ≤ TOP = omega (arith, c.requires.top) in
+    cores_ok rs owns laws V W from may.quiet end c.args.cores.now c.args.chans.now ahead.0 top may.soon c.requires.proper c.requires.punctual may.silent
+    c.advance_cores.new.asks c.in_ok-end.ensures.asks c.advance_cores.new.cores c.in_ok-end.ensures.cores
 
 pub exchange-requires-clause-asks : goal.exchange-requires-clause-asks
 exchange-requires-clause-asks g c κs within =
@@ -28,12 +28,12 @@ exchange-requires-clause-asks g c κs within =
     let V = g.T.Target.values.core in
     let W = g.T.Target.values.chan in
     let from = c.args.from in
-    let end = c.horizon-end.result in
-    let reach : end ≡ min c.args.until (from + c.quiet_cycles-quiet.result + rs.lookahead) = c.horizon-end.ensures ∙ ap (λ n. min c.args.until (from + c.quiet_cycles-quiet.result + n)) c.lookahead.ensures in
-    let sent = c.advance_all.new.asks in
-    let own : sent ≡ asks_in rs from (end - from) (map V c.args.cores.now) = c.in_ok-advance_all.ensures.asks ∙ ap (λ xs. xs ++ asks_in rs from (end - from) (map V c.args.cores.now)) c.requires.asks in
-    asks_ok rs owns laws V W from c.quiet_cycles-quiet.result end c.args.until c.args.cores.now c.args.chans.now c.requires.order c.requires.top reach c.requires.proper c.requires.punctual c.quiet_cycles-quiet.ensures
-    sent own c.advance_all.new.cores c.in_ok-advance_all.ensures.cores
+    let end = c.in_ok-end.end in
+    let may = c.in_ok-end.ensures.reach in
+    let ahead = c.in_ok-end.ensures.ahead in
+    let top : end ≤ TOP = omega (arith, c.requires.top) in
+    asks_ok rs owns laws V W from may.quiet end c.args.cores.now c.args.chans.now ahead.0 top may.soon c.requires.proper c.requires.punctual may.silent
+    c.advance_cores.new.asks c.in_ok-end.ensures.asks c.advance_cores.new.cores c.in_ok-end.ensures.cores
 
 pub returns-in_ok-exchange-clause-state : goal.returns-in_ok-exchange-clause-state
 returns-in_ok-exchange-clause-state g c =
@@ -44,12 +44,12 @@ returns-in_ok-exchange-clause-state g c =
     let V = g.T.Target.values.core in
     let W = g.T.Target.values.chan in
     let from = c.args.from in
-    let end = c.horizon-end.result in
-    let reach : end ≡ min c.args.until (from + c.quiet_cycles-quiet.result + rs.lookahead) = c.horizon-end.ensures ∙ ap (λ n. min c.args.until (from + c.quiet_cycles-quiet.result + n)) c.lookahead.ensures in
-    let sent = c.advance_all.new.asks in
-    let own : sent ≡ asks_in rs from (end - from) (map V c.args.cores.now) = c.in_ok-advance_all.ensures.asks ∙ ap (λ xs. xs ++ asks_in rs from (end - from) (map V c.args.cores.now)) c.requires.asks in
-    after_exchange rs owns laws V W from c.quiet_cycles-quiet.result end c.args.until c.args.cores.now c.args.chans.now c.requires.order c.requires.top reach c.requires.proper c.requires.punctual c.quiet_cycles-quiet.ensures
-    sent own c.advance_all.new.cores c.in_ok-advance_all.ensures.cores
+    let end = c.in_ok-end.end in
+    let may = c.in_ok-end.ensures.reach in
+    let ahead = c.in_ok-end.ensures.ahead in
+    let top : end ≤ TOP = omega (arith, c.requires.top) in
+    after_exchange rs owns laws V W from may.quiet end c.args.cores.now c.args.chans.now ahead.0 top may.soon c.requires.proper c.requires.punctual may.silent
+    c.advance_cores.new.asks c.in_ok-end.ensures.asks c.advance_cores.new.cores c.in_ok-end.ensures.cores
     c.exchange.new.cores c.exchange.new.chans c.in_ok-exchange.ensures.exchanged
 
 pub returns-else-not-is_empty-clause-state : goal.returns-else-not-is_empty-clause-state
@@ -61,10 +61,10 @@ returns-else-not-is_empty-clause-state g c =
     let V = g.T.Target.values.core in
     let W = g.T.Target.values.chan in
     let from = c.args.from in
-    let end = c.horizon-end.result in
-    let reach : end ≡ min c.args.until (from + c.quiet_cycles-quiet.result + rs.lookahead) = c.horizon-end.ensures ∙ ap (λ n. min c.args.until (from + c.quiet_cycles-quiet.result + n)) c.lookahead.ensures in
-    let sent = c.advance_all.new.asks in
-    let own : sent ≡ asks_in rs from (end - from) (map V c.args.cores.now) = c.in_ok-advance_all.ensures.asks ∙ ap (λ xs. xs ++ asks_in rs from (end - from) (map V c.args.cores.now)) c.requires.asks in
-    after_none rs owns laws V W from c.quiet_cycles-quiet.result end c.args.until c.args.cores.now c.args.chans.now c.requires.order c.requires.top reach c.requires.proper c.requires.punctual c.quiet_cycles-quiet.ensures
-    sent own c.advance_all.new.cores c.in_ok-advance_all.ensures.cores
+    let end = c.in_ok-end.end in
+    let may = c.in_ok-end.ensures.reach in
+    let ahead = c.in_ok-end.ensures.ahead in
+    let top : end ≤ TOP = omega (arith, c.requires.top) in
+    after_none rs owns laws V W from may.quiet end c.args.cores.now c.args.chans.now ahead.0 top may.soon c.requires.proper c.requires.punctual may.silent
+    c.advance_cores.new.asks c.in_ok-end.ensures.asks c.advance_cores.new.cores c.in_ok-end.ensures.cores
     (c.is_empty.ensures.0 c.if-not-is_empty.false)

@@ -67,6 +67,14 @@ run_to-requires-clause-proper g c κs within =
     (still_marked values s c.take.new.state c.in_ok-drifted.drifted.end c.in_ok-checkpoint.ensures.marked c.in_ok-drifted.ensures.marks) in
     subst (IsProper (g.T.Target.rules t) (g.T.Target.owns t)) (sym back) c.requires.proper
 
+pub run_to-requires-clause-punctual : goal.run_to-requires-clause-punctual
+run_to-requires-clause-punctual g c κs within =
+    let values = g.T.Target.values in
+    let s = state_of values c.args.state in
+    let back = c.restore.ensures.state s (sym c.in_ok-checkpoint.ensures.clock)
+    (still_marked values s c.take.new.state c.in_ok-drifted.drifted.end c.in_ok-checkpoint.ensures.marked c.in_ok-drifted.ensures.marks) in
+    subst IsPunctual (sym back) c.requires.punctual
+
 pub returns-clause-step : goal.returns-clause-step
 returns-clause-step g c =
     let rules = g.T.Target.rules c.args.target.now in
@@ -86,9 +94,4 @@ returns-clause-step g c =
     (λ none. false≢true (sym c.if-is_empty.false ∙ c.is_empty.ensures.1 none)) again
 
 pub returns-clause-punctual : goal.returns-clause-punctual
-returns-clause-punctual g c =
-    let values = g.T.Target.values in
-    let s = state_of values c.args.state in
-    let back = c.restore.ensures.state s (sym c.in_ok-checkpoint.ensures.clock)
-    (still_marked values s c.take.new.state c.in_ok-drifted.drifted.end c.in_ok-checkpoint.ensures.marked c.in_ok-drifted.ensures.marks) in
-    c.in_ok-run_to.ensures.punctual (subst IsPunctual (sym back) c.requires.punctual)
+returns-clause-punctual g c = c.in_ok-run_to.ensures.punctual

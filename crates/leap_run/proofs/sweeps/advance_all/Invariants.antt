@@ -1,7 +1,7 @@
 use Rattle.std.proofs.Common.{◌≡◌, ◌-◌, ◌++◌, map, take, drop}
 use Rattle.std.specs.List.{flat_map}
 use Rattle.target_law.specs.Cycles.{ticks_of}
-use Rattle.leap_run.proofs.leaps.advance_all.Given as goal
+use Rattle.leap_run.proofs.sweeps.advance_all.Given as goal
 
 -- the cores so far have gone on, and their asks are appended
 abbrev pub invariant-loop-core : goal.invariant-loop-core
