@@ -1,8 +1,13 @@
+pub mod Chans
 pub mod Changes
 pub mod Flushes
+pub mod Grants
+pub mod Held
 pub mod Holders
 pub mod Parts
+pub mod Pending
 pub mod Posts
 pub mod Rows
 pub mod Shown
 pub mod Tests
+pub mod World
