@@ -4,7 +4,7 @@ use Rattle.std.specs.Option.{option_map}
 use Rattle.std.proofs.lemmas.Bool.{cases_eq, cases_Bool, eq-eqb, ne_eqb}
 use Rattle.std.specs.List.{All}
 use Rattle.std.proofs.lemmas.List.{get_or_default}
-use Rattle.std.proofs.lemmas.List.Elements.{All-filter}
+use Rattle.std.proofs.lemmas.List.Elements.{All-nil, All-head, All-tail, All-filter}
 use Rattle.std.proofs.lemmas.List.Filters.{length-filter_both}
 use Rattle.std.proofs.lemmas.Option.{slice_get_within, get_or_from_slice_get}
 use Rattle.mesi_cache.proofs.Kept.{none_left}
@@ -13,6 +13,7 @@ use Rattle.mesi_cache.specs.declared.lines.HeldLine.{HeldLine}
 use Rattle.mesi_cache.specs.Lines.{shared, written, held_line}
 use Rattle.mesi_cache.specs.Sets.{is_line, find_line, others, to_front, fill_set, snoop_set}
 use Rattle.mesi_cache.specs.Caches.{CacheValue, IsSet, IsCache, set_number, set_of, line_in, with_set, read_line, write_line, fill_line, victim_of, snoop_line}
+use Rattle.timed_core.specs.Laws.{HoldsBelow}
 use Rattle.mesi_cache.proofs.CacheSteps.{in_range, after_front, after_fill, after_snoop}
 
 module _ (l : ℕ) (x : CacheLine) (set : List CacheLine) where
@@ -303,3 +304,26 @@ module _ (c : CacheValue) (is : IsCache c) (new : CacheLine) where
     gone = victim_gone;
     others = λ v fell l n m. shown l n (take_other_found l c.ways longer v long fell (λ e. m (sym e)));
   }
+
+-- where a cache holds only lines below a bound, whatever it holds is below it
+module _ (lines : ℕ) where
+  found_below : (l : ℕ) (set : List CacheLine) (x : CacheLine) → All (λ y. y.line < lines) set → find_line l set ≡ Some x → l < lines
+  found_below l [] x all e = absurd (cc)
+  found_below l (y ∷ set) x all e = elim (cases_eq y.line l) [
+    | inl same ↦ subst (λ n. n < lines) same (All-head (λ (z : CacheLine). z.line < lines) y set all)
+    | inr n ↦ let k = rw (ne_eqb y.line l n) at e in found_below l set x (All-tail (λ (z : CacheLine). z.line < lines) y set all) k
+  ]
+
+  all_below : (sets : List (List CacheLine)) (i : ℕ) → All (λ set. All (λ y. y.line < lines) set) sets → All (λ (y : CacheLine). y.line < lines) (get_or sets i [])
+  all_below [] i all = All-nil (λ (y : CacheLine). y.line < lines)
+  all_below (set ∷ sets) zero all = All-head (λ (s : List CacheLine). All (λ y. y.line < lines) s) set sets all
+  all_below (set ∷ sets) (suc i) all = all_below sets i (All-tail (λ (s : List CacheLine). All (λ y. y.line < lines) s) set sets all)
+
+  some_line : (o : Option CacheLine) (h : HeldLine) → option_map held_line o ≡ Some h → (x : CacheLine) × (o ≡ Some x)
+  some_line None h e = absurd (cc)
+  some_line (Some x) h e = (x, refl)
+
+  pub held_below : (c : CacheValue) → HoldsBelow lines c → (l : ℕ) (h : HeldLine) → held c l ≡ Some h → l < lines
+  held_below c holds l h e =
+      let x = some_line (line_in c l) h e in
+      found_below l (set_of c l) x.0 (all_below c.sets (set_number c l) holds) x.1

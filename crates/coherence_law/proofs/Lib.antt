@@ -1,5 +1,8 @@
+pub mod Applied
 pub mod Chans
 pub mod Changes
+pub mod Cycling
+pub mod Executed
 pub mod Flushes
 pub mod Grants
 pub mod Held
@@ -10,4 +13,5 @@ pub mod Posts
 pub mod Rows
 pub mod Shown
 pub mod Tests
+pub mod Ticking
 pub mod World
