@@ -12,6 +12,7 @@ pub mod Pending
 pub mod Posts
 pub mod Rows
 pub mod Shown
+pub mod Starting
 pub mod Tests
 pub mod Ticking
 pub mod World

@@ -148,3 +148,8 @@ module _ (q : ℕ → Bool) (end place : ℕ) where
 
   pub broken_none : end ≤ place → broken_from q end place ≡ []
   broken_none past = let e : end - place ≡ 0 = omega arith in ap (λ n. filter (λ n. not (q n)) (range_with_len place n)) e
+
+-- where every number of a range passes a test, none fails it
+pub none_fail : (q : ℕ → Bool) (from count : ℕ) → ((n : ℕ) → n < from + count → q n ≡ true) → filter (λ n. not (q n)) (range_with_len from count) ≡ []
+none_fail q from zero all = refl
+none_fail q from (suc count) all = rw (all from (omega arith)) (none_fail q (from + 1) count (λ n low. all n (omega arith)))

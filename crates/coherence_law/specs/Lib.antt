@@ -5,3 +5,4 @@ pub mod LineLaws
 pub mod Lines
 pub mod Steps
 pub mod Texts
+pub mod Unbroken
