@@ -12,7 +12,8 @@ pub mod Pending
 pub mod Posts
 pub mod Rows
 pub mod Shown
+pub mod Sizes
 pub mod Starting
-pub mod Tests
+pub mod Testing
 pub mod Ticking
 pub mod World

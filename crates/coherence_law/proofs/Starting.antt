@@ -46,7 +46,7 @@ use Rattle.coherence_law.specs.Coherent.{held_of, held_at, words_on, IsInMemory,
 use Rattle.coherence_law.specs.Unbroken.{machine_after, AllCoherent, NoBreaks, NoBreaksOf}
 use Rattle.coherence_law.proofs.Chans.{HasEntry, entry_found}
 use Rattle.coherence_law.proofs.Held.{held_below}
-use Rattle.coherence_law.proofs.Tests.{all_tests, none_fail}
+use Rattle.coherence_law.proofs.Testing.{all_tests, none_fail}
 use Rattle.coherence_law.proofs.Cycling.{pick_of, inner_of, base_of, IsBetween, cycle_between}
 use Rattle.coherence_law.proofs.Ticking.{IsFit, IsWorld, IsSent}
 use Rattle.coherence_law.proofs.World.{IsLineOf}

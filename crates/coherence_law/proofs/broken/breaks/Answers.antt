@@ -1,7 +1,7 @@
 use Rattle.std.proofs.Common.{◌≡◌, ◌∙◌, ◌++◌, ◌+◌, ◌<◌, ◌∷◌, [], sym, ap, subst, append_assoc}
 use Rattle.lockstep_model.specs.Views.{machine_of, values_of}
 use Rattle.coherence_law.specs.Breaks.{is_coherent, lines_in}
-use Rattle.coherence_law.proofs.Tests.{broken_from, broken_here, broken_later}
+use Rattle.coherence_law.proofs.Testing.{broken_from, broken_here, broken_later}
 use Rattle.coherence_law.proofs.broken.breaks.Goals.{then-not-is_coherent+in_ok-push, else-not-is_coherent}
 use Rattle.coherence_law.proofs.broken.breaks.Goals as goal
 

@@ -1,7 +1,7 @@
 use Rattle.std.proofs.Common.{◌≡◌, ◌++◌}
 use Rattle.lockstep_model.specs.Views.{machine_of, values_of}
 use Rattle.coherence_law.specs.Breaks.{breaks_of, is_coherent, lines_in}
-use Rattle.coherence_law.proofs.Tests.{broken_from}
+use Rattle.coherence_law.proofs.Testing.{broken_from}
 use Rattle.coherence_law.proofs.broken.breaks.Given as goal
 
 -- with the broken lines that are left, these are all

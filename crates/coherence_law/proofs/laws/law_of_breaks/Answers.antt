@@ -1,4 +1,4 @@
-use Rattle.coherence_law.proofs.Tests.{all_tests}
+use Rattle.coherence_law.proofs.Testing.{all_tests}
 use Rattle.coherence_law.proofs.laws.law_of_breaks.Goals as goal
 
 pub returns : goal.returns
