@@ -23,7 +23,7 @@ use Rattle.timed_core.specs.Cores.{HartValue}
 use Rattle.timed_core.specs.Posts.{applied, replied, evicted, is_modified, retried, snooped, given_up, without_reservation, flush_of}
 use Rattle.timed_core.specs.Laws.{HoldsBelow}
 use Rattle.coherence_law.specs.Lines.{Want, Nothing, Filling, Retrying, Part, changed}
-use Rattle.coherence_law.specs.Kept.{IsKept}
+use Rattle.coherence_law.specs.Invariant.{Invariant}
 use Rattle.coherence_law.specs.Steps.{with_part, filled_part, retried_part, invalidated_part, lost_part, snooped_part, shared_held, IsServed}
 use Rattle.coherence_law.proofs.Changes.{changed_at, changed_off}
 use Rattle.coherence_law.proofs.Parts.{fills, retries, invalidates, losses}
@@ -100,7 +100,7 @@ module _ (lines t : ℕ) (asked : ℕ → ℕ) (inner : ℕ → HartValue) (base
   waits l within = subst (λ b. HasPosts l (b ++ to_core c sent) ((world l within).line.parts c)) at_base ((world l within).parts c).posts
 
   -- the line changes, in the core
-  changed_line : (l : ℕ) (within : l < lines) (after : HartValue) (q : Part) → IsKept t (with_part c q (world l within).line) → IsPartOf l (asked c) after left q
+  changed_line : (l : ℕ) (within : l < lines) (after : HartValue) (q : Part) → Invariant t (with_part c q (world l within).line) → IsPartOf l (asked c) after left q
       → IsLineOf t l asked (upd c after inner) (upd c rest base) sent (entry l)
   changed_line l within after q kept is = record {
     line = with_part c q (world l within).line;

@@ -5,7 +5,7 @@ use Rattle.slack_base.specs.declared.messages.Words.{Words}
 use Rattle.status_map.specs.declared.views.EntryKind.{EntryKind}
 use Rattle.status_map.specs.declared.views.EntryKind.TheVariants.{Idle, Shared, Owned, Moving}
 use Rattle.coherence_law.specs.Lines.{Asked, Filling, Part, Line, changed}
-use Rattle.coherence_law.specs.Kept.{NoFill, IsClear, IsSharer, IsHeldAlone, IsHeldShared, IsLeaving, IsGoing, IsThere, IsComing, IsOwned, IsKind, IsPunctualPart, IsSettled, IsKept}
+use Rattle.coherence_law.specs.Invariant.{NoReply, IsClear, IsSharer, IsHeldAlone, IsHeldShared, IsLeaving, IsGoing, IsThere, IsComing, IsOwned, IsOfKind, IsPunctualPart, IsSettled, Invariant}
 use Rattle.coherence_law.specs.Steps.{with_part}
 
 module _ (c : ℕ) (p : Part) (parts : ℕ → Part) where
@@ -33,10 +33,10 @@ not_back a b n e = n (sym e)
 
 module _ (m : Words) (o : ℕ) (p : Part) (parts : ℕ → Part) where
   -- the owner's part changes
-  pub there_at : IsHeldAlone m p.held → NoFill p.want → p.invalidate ≡ None → ((k : ℕ) → k ≢ o → IsClear (parts k)) → IsThere m o (changed o p parts)
+  pub there_at : IsHeldAlone m p.held → NoReply p.want → p.invalidate ≡ None → ((k : ℕ) → k ≢ o → IsClear (parts k)) → IsThere m o (changed o p parts)
   there_at held fill invalidate others = record {
     held = at o p parts (λ q. IsHeldAlone m q.held) held;
-    fill = at o p parts (λ q. NoFill q.want) fill;
+    reply = at o p parts (λ q. NoReply q.want) fill;
     invalidate = at o p parts (λ q. q.invalidate ≡ None) invalidate;
     others = λ k n. off o p parts IsClear k n (others k n);
   }
@@ -44,7 +44,7 @@ module _ (m : Words) (o : ℕ) (p : Part) (parts : ℕ → Part) where
   pub coming_at : (due : ℕ) → p.want ≡ Filling due true m → IsHeldShared m p.held → p.invalidate ≡ None → ((k : ℕ) → k ≢ o → IsGoing m due (parts k)) → IsComing m o (changed o p parts)
   coming_at due want held invalidate others = record {
     due = due;
-    fill = at o p parts (λ q. q.want ≡ Filling due true m) want;
+    reply = at o p parts (λ q. q.want ≡ Filling due true m) want;
     held = at o p parts (λ q. IsHeldShared m q.held) held;
     invalidate = at o p parts (λ q. q.invalidate ≡ None) invalidate;
     others = λ k n. off o p parts (IsGoing m due) k n (others k n);
@@ -55,7 +55,7 @@ module _ (m : Words) (o : ℕ) (p : Part) (parts : ℕ → Part) where
     pub there_off : IsThere m o parts → IsClear p → IsThere m o (changed c p parts)
     there_off s clear = record {
       held = off c p parts (λ q. IsHeldAlone m q.held) o (not_back c o apart) s.held;
-      fill = off c p parts (λ q. NoFill q.want) o (not_back c o apart) s.fill;
+      reply = off c p parts (λ q. NoReply q.want) o (not_back c o apart) s.reply;
       invalidate = off c p parts (λ q. q.invalidate ≡ None) o (not_back c o apart) s.invalidate;
       others = each c p parts (λ k q. k ≢ o → IsClear q) (λ _. clear) (λ k _ n. s.others k n);
     }
@@ -63,7 +63,7 @@ module _ (m : Words) (o : ℕ) (p : Part) (parts : ℕ → Part) where
     pub coming_off : (s : IsComing m o parts) → IsGoing m s.due p → IsComing m o (changed c p parts)
     coming_off s going = record {
       due = s.due;
-      fill = off c p parts (λ q. q.want ≡ Filling s.due true m) o (not_back c o apart) s.fill;
+      reply = off c p parts (λ q. q.want ≡ Filling s.due true m) o (not_back c o apart) s.reply;
       held = off c p parts (λ q. IsHeldShared m q.held) o (not_back c o apart) s.held;
       invalidate = off c p parts (λ q. q.invalidate ≡ None) o (not_back c o apart) s.invalidate;
       others = each c p parts (λ k q. k ≢ o → IsGoing m s.due q) (λ _. going) (λ k _ n. s.others k n);
@@ -114,7 +114,7 @@ module _ (m : Words) (c : ℕ) (p : Part) (parts : ℕ → Part) (is : IsChange 
     same_snoops : (k : ℕ) → (changed c p parts k).snoop ≡ (parts k).snoop
     same_snoops = each c p parts (λ k q. q.snoop ≡ (parts k).snoop) snoop (λ k n. refl)
 
-    pub kind_change : (settled : ℕ) (kind : EntryKind) → IsAwaited kind (changed c p parts) → IsKind m settled kind parts → IsKind m settled kind (changed c p parts)
+    pub kind_change : (settled : ℕ) (kind : EntryKind) → IsAwaited kind (changed c p parts) → IsOfKind m settled kind parts → IsOfKind m settled kind (changed c p parts)
     kind_change settled Idle a s = (each c p parts (λ k q. IsClear q) (is.clear (s.0 c)) (λ k n. s.0 k), λ k. same_snoops k ∙ s.1 k)
     kind_change settled (Shared cores) a s =
         (each c p parts (λ k q. IsSharer m cores k q) (is.shares cores (s.0 c)) (λ k n. s.0 k), λ k. same_snoops k ∙ s.1 k)
@@ -132,36 +132,36 @@ module _ (m : Words) (c : ℕ) (p : Part) (parts : ℕ → Part) (is : IsChange 
 
 module _ (c : ℕ) (p : Part) (parts : ℕ → Part) where
   -- a core that waits goes on to
-  awaited_still : (m : Words) (settled : ℕ) (kind : EntryKind) → ((parts c).want ≡ Asked → p.want ≡ Asked) → IsKind m settled kind parts → IsAwaited kind (changed c p parts)
+  awaited_still : (m : Words) (settled : ℕ) (kind : EntryKind) → ((parts c).want ≡ Asked → p.want ≡ Asked) → IsOfKind m settled kind parts → IsAwaited kind (changed c p parts)
   awaited_still m settled Idle h s = tt
   awaited_still m settled (Shared cores) h s = tt
   awaited_still m settled (Owned o) h s = tt
   awaited_still m settled (Moving o r x) h s =
       each c p parts (λ k q. (parts k).want ≡ Asked → q.want ≡ Asked) h (λ k n e. e) r s.asked
 
-  awaited_off : (m : Words) (settled : ℕ) (kind : EntryKind) → IsNotFor c kind → IsKind m settled kind parts → IsAwaited kind (changed c p parts)
+  awaited_off : (m : Words) (settled : ℕ) (kind : EntryKind) → IsNotFor c kind → IsOfKind m settled kind parts → IsAwaited kind (changed c p parts)
   awaited_off m settled Idle n s = tt
   awaited_off m settled (Shared cores) n s = tt
   awaited_off m settled (Owned o) n s = tt
   awaited_off m settled (Moving o r x) n s = off c p parts (λ q. q.want ≡ Asked) r n s.asked
 
   -- a core that doesn't wait is none that the line moves to
-  pub not_for : (m : Words) (settled : ℕ) (kind : EntryKind) → ((parts c).want ≡ Asked → ⊥) → IsKind m settled kind parts → IsNotFor c kind
+  pub not_for : (m : Words) (settled : ℕ) (kind : EntryKind) → ((parts c).want ≡ Asked → ⊥) → IsOfKind m settled kind parts → IsNotFor c kind
   not_for m settled Idle h s = tt
   not_for m settled (Shared cores) h s = tt
   not_for m settled (Owned o) h s = tt
   not_for m settled (Moving o r x) h s = λ e. h (subst (λ k. (parts k).want ≡ Asked) e s.asked)
 
-module _ (t c : ℕ) (p : Part) (x : Line) (is : IsChange x.entry.words c p x.parts) (snoop : p.snoop ≡ (x.parts c).snoop) (punctual : IsPunctualPart t p) (settled : IsSettled x.entry.settled p.want) (k : IsKept t x) where
-  kept_with : IsAwaited x.entry.kind (changed c p x.parts) → IsKept t (with_part c p x)
+module _ (t c : ℕ) (p : Part) (x : Line) (is : IsChange x.entry.words c p x.parts) (snoop : p.snoop ≡ (x.parts c).snoop) (punctual : IsPunctualPart t p) (settled : IsSettled x.entry.settled p.want) (k : Invariant t x) where
+  kept_with : IsAwaited x.entry.kind (changed c p x.parts) → Invariant t (with_part c p x)
   kept_with awaited = record {
     punctual = each c p x.parts (λ j q. IsPunctualPart t q) punctual (λ j n. k.punctual j);
     settled = each c p x.parts (λ j q. IsSettled x.entry.settled q.want) settled (λ j n. k.settled j);
     kind = kind_change x.entry.words c p x.parts is snoop x.entry.settled x.entry.kind awaited k.kind;
   }
 
-  pub kept_change : ((x.parts c).want ≡ Asked → p.want ≡ Asked) → IsKept t (with_part c p x)
+  pub kept_change : ((x.parts c).want ≡ Asked → p.want ≡ Asked) → Invariant t (with_part c p x)
   kept_change h = kept_with (awaited_still c p x.parts x.entry.words x.entry.settled x.entry.kind h k.kind)
 
-  pub kept_answer : IsNotFor c x.entry.kind → IsKept t (with_part c p x)
+  pub kept_answer : IsNotFor c x.entry.kind → Invariant t (with_part c p x)
   kept_answer n = kept_with (awaited_off c p x.parts x.entry.words x.entry.settled x.entry.kind n k.kind)

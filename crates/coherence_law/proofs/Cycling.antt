@@ -22,7 +22,7 @@ use Rattle.target_law.specs.Cycles.{StateValue, tick_of, ticked, asks_of as all_
 use Rattle.target_law.proofs.Delivery.{length-delivered}
 use Rattle.target_law.proofs.Places.{length-changed}
 use Rattle.coherence_law.specs.Lines.{Want, Nothing, Asked, Filling, Retrying, Part}
-use Rattle.coherence_law.specs.Kept.{IsDueFill, IsDueAt, IsDueSnoop, IsPunctualPart}
+use Rattle.coherence_law.specs.Invariant.{IsDueReply, IsDueAt, IsDueSnoop, IsPunctualPart}
 use Rattle.coherence_law.proofs.Parts.{clocks}
 use Rattle.coherence_law.proofs.Chans.{get_changed, get_off, entry_closed, console_closed}
 use Rattle.coherence_law.proofs.Pending.{Picks, HasPosts, with_one, answer, answer_of, answer_kind, invalidate_of, invalidate_kind, snoop_of, snoop_kind, seen}
@@ -210,7 +210,7 @@ snoop_is_due true Invalidate due s e = absurd (cc)
 snoop_is_due false kind due s e = absurd (cc)
 
 module _ (t l : ℕ) (ps : List Post) (late : All (λ p. t < p.due) ps) where
-  late_fill : (w : Want) → Picks (answer_of l) ps (answer w) → IsDueFill (t + 1) w
+  late_fill : (w : Want) → Picks (answer_of l) ps (answer w) → IsDueReply (t + 1) w
   late_fill Nothing h = tt
   late_fill Asked h = tt
   late_fill (Filling due exclusive words) h =
@@ -237,7 +237,7 @@ module _ (t l : ℕ) (ps : List Post) (late : All (λ p. t < p.due) ps) where
       omega arith
 
   late_part : (x : Part) → HasPosts l ps x → IsPunctualPart (t + 1) x
-  late_part x h = record { fill = late_fill x.want h.answer; invalidate = late_invalidate x.invalidate h.invalidate; snoop = late_snoop x.snoop h.snoop }
+  late_part x h = record { reply = late_fill x.want h.answer; invalidate = late_invalidate x.invalidate h.invalidate; snoop = late_snoop x.snoop h.snoop }
 
 clock_world : (config : RawConfig) (t : ℕ) (inner : ℕ → HartValue) (base : ℕ → List Post) (chans : List ChannelValue) → AreLate t base → IsWorld config t inner base [] chans → IsWorld config (t + 1) inner base [] chans
 clock_world config t inner base chans late w = record {

@@ -15,7 +15,7 @@ use Rattle.status_map.specs.declared.views.Delays.{Delays}
 use Rattle.status_map.specs.Cores.{with_core, only}
 use Rattle.status_map.specs.Table.{outcome, send, row, owns, serve}
 use Rattle.coherence_law.specs.Lines.{Want, Nothing, Asked, Filling, Retrying, Part, Line, changed}
-use Rattle.coherence_law.specs.Kept.{NoFill, IsClear, IsMember, IsSharer, IsHeldAlone, IsHeldShared, IsShareHeld, IsShareFill, IsGoing, IsThere, IsOwned, NoSnoops, IsKind, IsDueFill, IsDueAt, IsDueSnoop, IsPunctualPart, IsSettled, IsKept}
+use Rattle.coherence_law.specs.Invariant.{NoReply, IsClear, IsMember, IsSharer, IsHeldAlone, IsHeldShared, IsShareHeld, IsShareReply, IsGoing, IsThere, IsOwned, NoSnoops, IsOfKind, IsDueReply, IsDueAt, IsDueSnoop, IsPunctualPart, IsSettled, Invariant}
 use Rattle.coherence_law.specs.Steps.{with_part, lost_part, snooped_part, shared_held, IsServed}
 use Rattle.coherence_law.specs.LineLaws.{WritesBack}
 use Rattle.coherence_law.proofs.Changes.{each, off}
@@ -48,7 +48,7 @@ module _ (m : Words) (c : ℕ) (parts : ℕ → Part) (h : HeldLine) (held : (pa
       false≢true (sym (ap may_write here.0) ∙ may)
 
   -- so the line is owned, or moves
-  pub there_from_kind : (settled : ℕ) (kind : EntryKind) → IsKind m settled kind parts → IsThere m c parts
+  pub there_from_kind : (settled : ℕ) (kind : EntryKind) → IsOfKind m settled kind parts → IsThere m c parts
   there_from_kind settled Idle s = absurd (not_clear (s.0 c))
   there_from_kind settled (Shared cores) s = absurd (not_sharer cores (s.0 c))
   there_from_kind settled (Owned o) s = owner_there (subst (λ j. IsOwned m j parts) (sym (owner_is o s.0)) s.0)
@@ -58,21 +58,21 @@ module _ (t : ℕ) (i : Id) (l g settled : ℕ) (m : Words) (parts : ℕ → Par
   abbrev after : ℕ → Part
   after = changed i.core (lost_part (parts i.core)) parts
 
-  lost_kept : (kind kind' : EntryKind) (w : Words) → IsKind w settled kind' after → IsKept t (line_of kind settled m parts) → IsKept t (line_of kind' settled w after)
+  lost_kept : (kind kind' : EntryKind) (w : Words) → IsOfKind w settled kind' after → Invariant t (line_of kind settled m parts) → Invariant t (line_of kind' settled w after)
   lost_kept kind kind' w is k = record {
     punctual = each i.core (lost_part (parts i.core)) parts (λ j q. IsPunctualPart t q)
-        (record { fill = (k.punctual i.core).fill; invalidate = (k.punctual i.core).invalidate; snoop = (k.punctual i.core).snoop }) (λ j n. k.punctual j);
+        (record { reply = (k.punctual i.core).reply; invalidate = (k.punctual i.core).invalidate; snoop = (k.punctual i.core).snoop }) (λ j n. k.punctual j);
     settled = each i.core (lost_part (parts i.core)) parts (λ j q. IsSettled settled q.want) (k.settled i.core) (λ j n. k.settled j);
     kind = is;
   }
 
   lost_clear : IsThere m i.core parts → (k : ℕ) → IsClear (after k)
-  lost_clear s = each i.core (lost_part (parts i.core)) parts (λ j q. IsClear q) (record { held = refl; fill = s.fill; invalidate = s.invalidate }) (λ j n. s.others j n)
+  lost_clear s = each i.core (lost_part (parts i.core)) parts (λ j q. IsClear q) (record { held = refl; reply = s.reply; invalidate = s.invalidate }) (λ j n. s.others j n)
 
   lost_snoops : (k : ℕ) → (after k).snoop ≡ (parts k).snoop
   lost_snoops = each i.core (lost_part (parts i.core)) parts (λ j q. q.snoop ≡ (parts j).snoop) refl (λ j n. refl)
 
-  back_row : (kind : EntryKind) (mine early : Bool) → owns i.core kind ≡ mine → IsKept t (line_of kind settled m parts) → IsRow t i l g settled after (row d m (WriteBack i l h.words) kind mine early)
+  back_row : (kind : EntryKind) (mine early : Bool) → owns i.core kind ≡ mine → Invariant t (line_of kind settled m parts) → IsRow t i l g settled after (row d m (WriteBack i l h.words) kind mine early)
   unfolding row
   back_row Idle mine early my k = absurd (not_clear m i.core parts h held may (k.kind.0 i.core))
   back_row (Shared cores) mine early my k = absurd (not_sharer m i.core parts h held may cores (k.kind.0 i.core))
@@ -88,7 +88,7 @@ module _ (t : ℕ) (i : Id) (l g settled : ℕ) (m : Words) (parts : ℕ → Par
       let none : (j : ℕ) (q : Part) → q.held ≡ None → IsHeldAlone h.words q.held = λ j q n. subst (IsHeldAlone h.words) (sym n) tt in (
         tt,
         lost_kept (Moving o r x) (Moving o r x) h.words (record {
-          owned = inl (record { held = none o (after o) (clear o).held; fill = (clear o).fill; invalidate = (clear o).invalidate; others = λ j n. clear j });
+          owned = inl (record { held = none o (after o) (clear o).held; reply = (clear o).reply; invalidate = (clear o).invalidate; others = λ j n. clear j });
           due = k.kind.due;
           snoop = lost_snoops o ∙ k.kind.snoop;
           late = k.kind.late;
@@ -100,7 +100,7 @@ module _ (t : ℕ) (i : Id) (l g settled : ℕ) (m : Words) (parts : ℕ → Par
       )
 
 back_served : (t grant line : ℕ) (d : Delays) (id : Id) (h : HeldLine) (x : Line) → (x.parts id.core).held ≡ Some h → may_write h.held ≡ true
-    → IsKept t x → IsServed t d grant (WriteBack id line h.words) (with_part id.core (lost_part (x.parts id.core)) x)
+    → Invariant t x → IsServed t d grant (WriteBack id line h.words) (with_part id.core (lost_part (x.parts id.core)) x)
 unfolding serve
 back_served t grant line d id h x held may k =
     let r = back_row t id line grant x.entry.settled x.entry.words x.parts d h held may x.entry.kind (owns id.core x.entry.kind) (nat_lt grant x.entry.settled) refl k in
@@ -111,7 +111,7 @@ writes_back t c grant line d id h x held modified core k =
     subst (λ j. IsServed t d grant (WriteBack id line h.words) (with_part j (lost_part (x.parts j)) x)) core
     (back_served t grant line d id h x (subst (λ j. (x.parts j).held ≡ Some h) (sym core) held) (ap may_write modified) k)
 
-no_fill_shares : (m : Words) (cores k : ℕ) (w : Want) → NoFill w → IsShareFill m cores k w
+no_fill_shares : (m : Words) (cores k : ℕ) (w : Want) → NoReply w → IsShareReply m cores k w
 no_fill_shares m cores k Nothing n = tt
 no_fill_shares m cores k Asked n = tt
 no_fill_shares m cores k (Filling due x words) n = absurd n
@@ -119,7 +119,7 @@ no_fill_shares m cores k (Retrying due) n = tt
 
 -- a part with nothing in it shares whatever is shared
 clear_sharer : (m : Words) (cores k : ℕ) (p : Part) → IsClear p → IsSharer m cores k p
-clear_sharer m cores k p s = record { held = subst (IsShareHeld m cores k) (sym s.held) tt; fill = no_fill_shares m cores k p.want s.fill; invalidate = s.invalidate }
+clear_sharer m cores k p s = record { held = subst (IsShareHeld m cores k) (sym s.held) tt; reply = no_fill_shares m cores k p.want s.reply; invalidate = s.invalidate }
 
 -- the words of a held line, and what it is once it is shared
 abbrev pub words_in : Option HeldLine → Option Words
@@ -136,7 +136,7 @@ module _ (t : ℕ) (i : Id) (l g settled o r : ℕ) (m : Words) (parts : ℕ →
     flushed_punctual : (k : ℕ) → IsPunctualPart t (flushed k)
     flushed_punctual = each i.core p parts (λ k q. IsPunctualPart t q)
         (record {
-          fill = subst (λ w. IsDueFill t w) (sym want) (punctual i.core).fill;
+          reply = subst (λ w. IsDueReply t w) (sym want) (punctual i.core).reply;
           invalidate = subst (λ w. IsDueAt t w) (sym invalidate) (punctual i.core).invalidate;
           snoop = subst (λ w. IsDueSnoop t w) (sym snoop) tt;
         }) (λ k n. punctual k)
@@ -153,12 +153,12 @@ module _ (t : ℕ) (i : Id) (l g settled o r : ℕ) (m : Words) (parts : ℕ →
     flushed_invalidate : p.invalidate ≡ None
     flushed_invalidate = invalidate ∙ there.invalidate
 
-    flushed_fill : NoFill p.want
-    flushed_fill = subst NoFill (sym want) there.fill
+    flushed_fill : NoReply p.want
+    flushed_fill = subst NoReply (sym want) there.reply
 
     -- the owner gave it up
     all_clear : p.held ≡ None → (k : ℕ) → IsClear (flushed k)
-    all_clear held = each i.core p parts (λ k q. IsClear q) (record { held = held; fill = flushed_fill; invalidate = flushed_invalidate }) (λ k n. there.others k n)
+    all_clear held = each i.core p parts (λ k q. IsClear q) (record { held = held; reply = flushed_fill; invalidate = flushed_invalidate }) (λ k n. there.others k n)
 
     taken_row : (w : Words) → p.held ≡ None → IsRow t i l g settled flushed (outcome (send r d.transfer (Reply true w) ∷ []) (Owned r) w)
     taken_row w held =
@@ -186,7 +186,7 @@ module _ (t : ℕ) (i : Id) (l g settled o r : ℕ) (m : Words) (parts : ℕ →
               (each i.core p parts (λ k q. IsSharer w cores k q)
               (record {
                 held = subst (IsShareHeld w cores i.core) (sym held) (shared, words, member_still (only i.core) r low' i.core (member_new 0 i.core low));
-                fill = no_fill_shares w cores i.core p.want flushed_fill;
+                reply = no_fill_shares w cores i.core p.want flushed_fill;
                 invalidate = flushed_invalidate;
               })
               (λ k n. clear_sharer w cores k (parts k) (there.others k n))) (member_new (only i.core) r low') flushed_snoops,

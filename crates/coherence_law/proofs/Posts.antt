@@ -8,7 +8,7 @@ use Rattle.slack_base.specs.declared.stamps.Id.{Id}
 use Rattle.status_map.specs.Cores.{holds, is_other, others}
 use Rattle.status_map.specs.Table.{send, post_of}
 use Rattle.coherence_law.specs.Lines.{Part, received, all_received, AreFresh}
-use Rattle.coherence_law.specs.Kept.{IsMember}
+use Rattle.coherence_law.specs.Invariant.{IsMember}
 use Rattle.coherence_law.proofs.Changes.{changed_at, changed_off, each, off}
 
 pub received_append : (parts : ℕ → Part) (a b : List Post) → all_received parts (a ++ b) ≡ all_received (all_received parts a) b

@@ -12,7 +12,7 @@ use Rattle.status_map.specs.declared.views.EntryKind.TheVariants.{Idle, Shared, 
 use Rattle.status_map.specs.declared.views.Delays.{Delays}
 use Rattle.status_map.specs.Table.{row, owns, serve}
 use Rattle.coherence_law.specs.Lines.{Part, Line, changed}
-use Rattle.coherence_law.specs.Kept.{NoFill, IsClear, IsMember, IsHeldAlone, IsOwnState, IsHeldShared, IsShareHeld, IsGoing, IsThere, IsOwned, IsKind, IsKept}
+use Rattle.coherence_law.specs.Invariant.{NoReply, IsClear, IsMember, IsHeldAlone, IsAloneAs, IsHeldShared, IsShareHeld, IsGoing, IsThere, IsOwned, IsOfKind, Invariant}
 use Rattle.coherence_law.specs.Steps.{with_part, snooped_part, IsServed}
 use Rattle.coherence_law.specs.LineLaws.{Coherent, Snoops}
 use Rattle.coherence_law.proofs.Parts.{some≢none}
@@ -28,11 +28,11 @@ module _ (t : ℕ) (i : Id) (l g settled due : ℕ) (own : Bool) (m : Words) (pa
   unsnooped : (parts i.core).snoop ≡ None → ⊥
   unsnooped n = some≢none (due, own) (parts i.core).snoop snoop n
 
-  came : NoFill (parts i.core).want → IsOwned m i.core parts → IsThere m i.core parts
+  came : NoReply (parts i.core).want → IsOwned m i.core parts → IsThere m i.core parts
   came none (inl s) = s
-  came none (inr s) = absurd (subst NoFill s.fill none)
+  came none (inr s) = absurd (subst NoReply s.reply none)
 
-  snoop_row : (kind : EntryKind) → IsKept t (line_of kind settled m parts)
+  snoop_row : (kind : EntryKind) → Invariant t (line_of kind settled m parts)
       → IsRow t i l g settled (changed i.core (snooped_part own (parts i.core)) parts) (row d m (Flush i l (words_in (parts i.core).held)) kind (owns i.core kind) early)
   snoop_row Idle k = absurd (unsnooped (k.kind.1 i.core))
   snoop_row (Shared cores) k = absurd (unsnooped (k.kind.1 i.core))
@@ -44,13 +44,13 @@ module _ (t : ℕ) (i : Id) (l g settled due : ℕ) (own : Bool) (m : Words) (pa
       let at : s.due ≡ due = ap (λ q. (due_in (due, own) q).0) e in
       let kind : x ≡ own = ap (λ q. (due_in (due, own) q).1) e in
       let late : settled ≤ s.due = s.late in
-      let none : NoFill (parts i.core).want = none_on_way t settled (parts i.core).want (omega arith) (k.settled i.core) (k.punctual i.core).fill in
+      let none : NoReply (parts i.core).want = none_on_way t settled (parts i.core).want (omega arith) (k.settled i.core) (k.punctual i.core).reply in
       let there = came none (subst (λ j. IsOwned m j parts) (sym same) s.owned) in
       subst (λ b. IsRow t i l g settled (changed i.core (snooped_part b (parts i.core)) parts) (row d m (Flush i l (words_in (parts i.core).held)) (Moving o r x) (owns i.core (Moving o r x)) early)) kind
       (flush_row t i l g settled o r m parts d soon low s.low same s.apart s.asked k.punctual k.settled there s.only x (owns i.core (Moving o r x)) early refl (parts i.core).held refl)
 
 snoop_served : (t grant line due : ℕ) (own : Bool) (d : Delays) (id : Id) (x : Line) → (x.parts id.core).snoop ≡ Some (due, own) → due ≤ t → t ≤ grant → id.core < 8
-    → IsKept t x → IsServed t d grant (Flush id line (words_in (x.parts id.core).held)) (with_part id.core (snooped_part own (x.parts id.core)) x)
+    → Invariant t x → IsServed t d grant (Flush id line (words_in (x.parts id.core).held)) (with_part id.core (snooped_part own (x.parts id.core)) x)
 unfolding serve
 snoop_served t grant line due own d id x snoop now soon low k =
     let r = snoop_row t id line grant x.entry.settled due own x.entry.words x.parts d (nat_lt grant x.entry.settled) snoop now soon low x.entry.kind k in
@@ -62,7 +62,7 @@ snoops t c due grant line own d id x snoop now soon core low k =
     (snoop_served t grant line due own d id x (subst (λ j. (x.parts j).snoop ≡ Some (due, own)) (sym core) snoop) now soon (subst (λ j. j < 8) (sym core) low) k)
 
 module _ (m : Words) (c : ℕ) (parts : ℕ → Part) (h : HeldLine) (held : (parts c).held ≡ Some h) (clean : h.held ≢ M) where
-  own_same : (s : Held) → s ≢ M → IsOwnState m h.words s → h.words ≡ m
+  own_same : (s : Held) → s ≢ M → IsAloneAs m h.words s → h.words ≡ m
   own_same S n e = absurd e
   own_same E n e = e
   own_same M n e = absurd (n refl)
@@ -94,7 +94,7 @@ module _ (m : Words) (c : ℕ) (parts : ℕ → Part) (h : HeldLine) (held : (pa
     | inr n ↦ same_other o n s
   ]
 
-  same_words : (settled : ℕ) (kind : EntryKind) → IsKind m settled kind parts → h.words ≡ m
+  same_words : (settled : ℕ) (kind : EntryKind) → IsOfKind m settled kind parts → h.words ≡ m
   same_words settled Idle s = same_clear (s.0 c)
   same_words settled (Shared cores) s =
       let here : (h.held ≡ S) × (h.words ≡ m) × IsMember cores c = subst (IsShareHeld m cores c) held (s.0 c).held in here.1

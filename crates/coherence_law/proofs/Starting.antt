@@ -38,7 +38,7 @@ use Rattle.target_law.specs.Cycles.{StateValue, lockstep}
 use Rattle.lockstep_model.specs.Rules.{rules_of}
 use Rattle.lockstep_model.specs.Start.{start_of, first_core_value, first_buses, first_console}
 use Rattle.coherence_law.specs.Lines.{Nothing, Part, Line}
-use Rattle.coherence_law.specs.Kept.{IsKept}
+use Rattle.coherence_law.specs.Invariant.{Invariant}
 use Rattle.coherence_law.specs.LineLaws.{AreCoherent}
 use Rattle.coherence_law.proofs.Shown.{coherent}
 use Rattle.coherence_law.specs.Breaks.{breaks_of, is_coherent, lines_in}
@@ -121,12 +121,12 @@ module _ (config : RawConfig) (image : Image) where
   abbrev first_line : ℕ → Line
   first_line l = record { entry = first_entry config image l; parts = λ c. no_part }
 
-  first_kept : (l : ℕ) → IsKept 0 (first_line l)
+  first_kept : (l : ℕ) → Invariant 0 (first_line l)
   unfolding first_entry
   first_kept l = record {
-    punctual = λ c. record { fill = tt; invalidate = tt; snoop = tt };
+    punctual = λ c. record { reply = tt; invalidate = tt; snoop = tt };
     settled = λ c. tt;
-    kind = (λ c. record { held = refl; fill = tt; invalidate = refl }, λ c. refl);
+    kind = (λ c. record { held = refl; reply = tt; invalidate = refl }, λ c. refl);
   }
 
   module _ (b : InBounds config) where

@@ -14,7 +14,7 @@ use Rattle.status_map.specs.Table.{serve, row, owns, post_of}
 use Rattle.timed_core.specs.Accesses.{held_in}
 use Rattle.timed_core.specs.Cores.{HartValue}
 use Rattle.coherence_law.specs.Lines.{Want, Nothing, Part, Line, receive, IsFresh, received, all_received, AreFresh}
-use Rattle.coherence_law.specs.Kept.{IsKept}
+use Rattle.coherence_law.specs.Invariant.{Invariant}
 use Rattle.coherence_law.specs.Steps.{served_line, IsServed}
 use Rattle.coherence_law.proofs.Changes.{each}
 use Rattle.coherence_law.proofs.Pending.{HasPosts, has_same, more, receive_one, from_front, Picks}
@@ -61,7 +61,7 @@ pub record IsLineOf (t l : ℕ) (asked : ℕ → ℕ) (inner : ℕ → HartValue
   pub line : Line
   pub entry : line.entry ≡ e
   pub parts : AreParts l asked inner base sent line.parts
-  pub kept : IsKept t line
+  pub kept : Invariant t line
 
 -- one post more
 module _ (base : ℕ → List Post) (sent : List Post) (p : Post) where
@@ -148,7 +148,7 @@ pub record IsBefore (t : ℕ) (d : Delays) (grant : ℕ) (ask : Ask) (la : ℕ) 
   pub line : Line
   pub entry : line.entry ≡ e
   pub parts : AreParts l asked inner base sent line.parts
-  pub kept : l ≢ la → IsKept t line
+  pub kept : l ≢ la → Invariant t line
   pub served : l ≡ la → IsServed t d grant ask line
 
 module _ (t : ℕ) (d : Delays) (grant : ℕ) (ask : Ask) (la : ℕ) (is : line_of ask ≡ Some la) (asked : ℕ → ℕ) (inner : ℕ → HartValue) (base : ℕ → List Post) (sent : List Post) (entry : ℕ → EntryView) where

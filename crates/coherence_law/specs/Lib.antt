@@ -1,6 +1,6 @@
 pub mod Breaks
 pub mod Coherent
-pub mod Kept
+pub mod Invariant
 pub mod LineLaws
 pub mod Lines
 pub mod Steps
