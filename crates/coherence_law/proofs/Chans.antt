@@ -1,5 +1,5 @@
 -- The channels in the midst of a cycle: which entry each line has.
-use Rattle.std.proofs.Common.{◌≡◌, ◌≢◌, ◌∙◌, ℕ, zero, suc, ◌+◌, ◌*◌, ◌/◌, ◌%◌, ◌<◌, ◌≤◌, Option, None, Some, List, [], ◌∷◌, map, slice_get, refl, sym, ap, subst, inl, inr, arith, div-add-mod'}
+use Rattle.std.proofs.Common.{◌≡◌, ◌≢◌, ◌∙◌, ℕ, zero, suc, ◌+◌, ◌*◌, ◌/◌, ◌%◌, ◌<◌, ◌≤◌, Option, None, Some, List, [], ◌∷◌, map, slice_get, refl, sym, ap, inl, inr, arith, div-add-mod'}
 use Rattle.std.specs.Prelude.{slice_set}
 use Rattle.std.proofs.lemmas.Bool.{cases_eq, eq-eqb}
 use Rattle.std.proofs.Math.Nat.{mod-lt}
@@ -10,7 +10,7 @@ use Rattle.slack_base.specs.Messages.{id_of, line_of}
 use Rattle.status_map.specs.declared.views.EntryView.{EntryView}
 use Rattle.status_map.specs.Table.{serve}
 use Rattle.bus_model.specs.Asks.{channel_of, channel_of_line}
-use Rattle.bus_model.specs.Channels.{BusValue, ConsoleValue, ChannelValue, AsBus, AsConsole, entry_of, found_entry}
+use Rattle.bus_model.specs.Channels.{BusValue, ConsoleValue, ChannelValue, AsBus, AsConsole, found_entry}
 use Rattle.bus_model.specs.Closing.{closed}
 use Rattle.bus_model.specs.Serving.{bus_served, console_served, served}
 use Rattle.bus_model.specs.Settings.{SettingValue, delays_of, setting_of}

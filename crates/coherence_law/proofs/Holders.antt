@@ -1,15 +1,14 @@
 -- What the cores of a machine hold of a line, in core order, and what a test of the cores says of it.
-use Rattle.std.proofs.Common.{cond, ◌&&◌, ◌||◌, ◌≡◌, ◌≢◌, ◌∙◌, ℕ, zero, suc, ◌+◌, ◌<◌, ◌≤◌, Bool, true, not, Option, None, Some, List, [], ◌∷◌, filter, length, map, slice_get, nat_le, refl, sym, ap, subst, inl, inr, arith}
+use Rattle.std.proofs.Common.{cond, ◌||◌, ◌≡◌, ◌≢◌, ◌∙◌, ℕ, zero, suc, ◌+◌, ◌≤◌, Bool, true, not, Option, None, Some, List, [], ◌∷◌, filter, length, map, slice_get, nat_le, refl, sym, ap, subst, inl, inr, arith}
 use Rattle.std.specs.List.{count_by, list_all, list_any}
 use Rattle.std.proofs.lemmas.List.Sums.{length-filter}
 use Rattle.std.proofs.lemmas.Bool.{cases_Bool, and_parts, and_from, or_left, or_right, false≢true}
 use Rattle.slack_base.specs.Inboxes.{CoreValue}
 use Rattle.mesi_cache.specs.declared.lines.HeldLine.{HeldLine}
 use Rattle.mesi_cache.specs.Lines.{may_write}
-use Rattle.bus_model.specs.Channels.{ChannelValue}
 use Rattle.timed_core.specs.Accesses.{held_in}
 use Rattle.timed_core.specs.Cores.{HartValue}
-use Rattle.coherence_law.specs.Breaks.{is_held, is_writable, is_true_to, is_alone}
+use Rattle.coherence_law.specs.Breaks.{is_held, is_writable, is_alone}
 use Rattle.coherence_law.specs.Coherent.{held_of}
 
 pub list_any-map : {X Y : Type 0} (p : Y → Bool) (f : X → Y) (xs : List X) → list_any p (map f xs) ≡ list_any (λ x. p (f x)) xs
@@ -129,9 +128,9 @@ module _ (line : ℕ) (p : Option HeldLine → Bool) (none : p None ≡ true) wh
   all_pass [] each = refl
   all_pass (core ∷ cores) each =
       and_from (p (held_in core.inner.cache line)) (list_all (λ core. p (held_in core.inner.cache line)) cores) (by_head (held_in core.inner.cache line) (each 0)) (all_pass cores (λ c. each (suc c))) where
-    by_head : (o : Option HeldLine) → ((h : HeldLine) → o ≡ Some h → p (Some h) ≡ true) → p o ≡ true
-    by_head None here = none
-    by_head (Some h) here = here h refl
+        by_head : (o : Option HeldLine) → ((h : HeldLine) → o ≡ Some h → p (Some h) ≡ true) → p o ≡ true
+        by_head None here = none
+        by_head (Some h) here = here h refl
 
   pub each_passes : (cores : List (CoreValue HartValue)) → list_all (λ core. p (held_in core.inner.cache line)) cores ≡ true → (c : ℕ) (h : HeldLine) → held_of (slice_get cores c) line ≡ Some h → p (Some h) ≡ true
   each_passes [] all c h e = absurd (cc)

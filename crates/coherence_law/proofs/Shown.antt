@@ -40,7 +40,7 @@ module _ (t : ℕ) (i : Id) (l g settled due : ℕ) (own : Bool) (m : Words) (pa
   snoop_row (Moving o r x) k =
       let s = k.kind in
       let same : i.core ≡ o = elim (cases_eq i.core o) [ inl e ↦ e | inr n ↦ absurd (unsnooped (s.only i.core n)) ] in
-      let e : Some (s.due, x) ≡ Some (due, own) = sym s.snoop ∙ ap (λ j. (parts j).snoop) (sym same) ∙ snoop in
+      let e : ◌≡◌ {A = Option (ℕ × Bool)} (Some (s.due, x)) (Some (due, own)) = sym s.snoop ∙ ap (λ j. (parts j).snoop) (sym same) ∙ snoop in
       let at : s.due ≡ due = ap (λ q. (due_in (due, own) q).0) e in
       let kind : x ≡ own = ap (λ q. (due_in (due, own) q).1) e in
       let late : settled ≤ s.due = s.late in

@@ -24,7 +24,6 @@ use Rattle.mesi_cache.proofs.CacheSteps.{empty_is}
 use Rattle.status_map.specs.declared.views.EntryView.{EntryView}
 use Rattle.status_map.specs.Entries.{NamesBelow}
 use Rattle.slack_base.specs.Numbers.{lines_of, numbers_of}
-use Rattle.slack_base.specs.declared.configs.Config.{Config}
 use Rattle.bus_model.specs.Channels.{ChannelValue, AsBus}
 use Rattle.bus_model.specs.Starting.{first_entry, first_bus}
 use Rattle.bus_model.proofs.Places.{place-inside}
@@ -35,14 +34,13 @@ use Rattle.timed_core.specs.Cores.{HartValue, first_core}
 use Rattle.timed_core.proofs.Lawful.{all_starts}
 use Rattle.first_memory.specs.Memory.{bytes_from}
 use Rattle.target_law.specs.Cycles.{StateValue, lockstep}
-use Rattle.lockstep_model.specs.Rules.{rules_of}
-use Rattle.lockstep_model.specs.Start.{start_of, first_core_value, first_buses, first_console}
+use Rattle.lockstep_model.specs.Start.{start_of, first_core_value, first_console}
 use Rattle.coherence_law.specs.Lines.{Nothing, Part, Line}
 use Rattle.coherence_law.specs.Invariant.{Invariant}
 use Rattle.coherence_law.specs.LineLaws.{AreCoherent}
 use Rattle.coherence_law.proofs.Shown.{coherent}
 use Rattle.coherence_law.specs.Breaks.{breaks_of, is_coherent, lines_in}
-use Rattle.coherence_law.specs.Coherent.{held_of, held_at, words_on, IsInMemory, IsCoherent}
+use Rattle.coherence_law.specs.Coherent.{held_of, held_at, IsInMemory, IsCoherent}
 use Rattle.coherence_law.specs.Unbroken.{machine_after, AllCoherent, NoBreaks, NoBreaksOf}
 use Rattle.coherence_law.proofs.Chans.{HasEntry, entry_found}
 use Rattle.coherence_law.proofs.Held.{held_below}

@@ -1,6 +1,6 @@
 -- The test of a line says what coherence is, and the list of the lines that fail it.
-use Rattle.std.proofs.Common.{cond, ◌&&◌, ◌||◌, ◌==◌, ◌-◌, add-one, ◌≡◌, ◌≢◌, ◌∙◌, ℕ, zero, suc, ◌+◌, ◌<◌, ◌≤◌, Bool, true, false, not, Option, None, Some, List, [], ◌∷◌, filter, length, slice_get, nat_le, refl, sym, ap, inl, inr, arith}
-use Rattle.std.specs.List.{range_with_len, list_all, list_any}
+use Rattle.std.proofs.Common.{cond, ◌==◌, ◌-◌, add-one, ◌≡◌, ◌≢◌, ◌∙◌, ℕ, zero, suc, ◌+◌, ◌<◌, ◌≤◌, Bool, true, false, not, Option, None, Some, List, [], ◌∷◌, filter, length, slice_get, nat_le, refl, sym, ap, inl, inr, arith}
+use Rattle.std.specs.List.{range_with_len, list_all}
 use Rattle.std.proofs.lemmas.Bool.{cases_Bool, eq-eqb, eqb-true, and_parts, and_from, or_left, or_right, or_cases, le-leb, leb-true, false≢true, not-true, not_from_false}
 use Rattle.slack_base.specs.declared.messages.Words.{Words}
 use Rattle.mesi_cache.specs.declared.lines.Held.{Held}

@@ -21,9 +21,7 @@ use Rattle.status_map.specs.declared.views.EntryView.{EntryView}
 use Rattle.status_map.specs.Entries.{NamesBelow}
 use Rattle.status_map.specs.Table.{serve}
 use Rattle.status_map.proofs.Lawful.{all_lawful}
-use Rattle.bus_model.specs.Asks.{channel_of}
 use Rattle.bus_model.specs.Channels.{ChannelValue}
-use Rattle.bus_model.specs.Serving.{served}
 use Rattle.bus_model.specs.Settings.{delays_of}
 use Rattle.timed_core.specs.Code.{CodeValue}
 use Rattle.slack_base.specs.Inboxes.{CoreValue}

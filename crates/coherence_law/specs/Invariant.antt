@@ -2,6 +2,7 @@
 -- entry says who holds the line: no core, some that share it, one alone, or one that is to give it to another. Here m are
 -- memory's words, and `settled` is the cycle from which on every Reply that was promised is applied.
 use Rattle.std.specs.Prelude.{ℕ, ◌≡◌, ◌≢◌, ◌<◌, ◌≤◌, ◌⊎◌, Bool, true, false, Option, None, Some}
+use Rattle.slack_base.specs.declared.bounds.TheConstants.{MOST_CORES}
 use Rattle.slack_base.specs.declared.messages.Words.{Words}
 use Rattle.mesi_cache.specs.declared.lines.Held.{Held}
 use Rattle.mesi_cache.specs.declared.lines.Held.TheVariants.{Shared as S, Exclusive as E, Modified as M}
@@ -33,7 +34,7 @@ IsIdle parts = ((c : ℕ) → IsClear (parts c)) × NoSnoops parts
 -- the core is in the set, and has one of the numbers that cores have
 pub record IsMember (cores c : ℕ) : Type 0 where
   pub among : holds cores c ≡ true
-  pub low : c < 8
+  pub low : c < MOST_CORES
 
 -- if the core holds the line at all, it is in the set and holds it Shared with memory's words
 abbrev pub IsShareHeld : (m : Words) (cores c : ℕ) → Option HeldLine → Type 0
@@ -118,7 +119,7 @@ pub record IsMoving (m : Words) (settled owner requester : ℕ) (exclusive : Boo
   pub only : (c : ℕ) → c ≢ owner → (parts c).snoop ≡ None
   pub asked : (parts requester).want ≡ Asked
   pub apart : requester ≢ owner
-  pub low : requester < 8
+  pub low : requester < MOST_CORES
 
 -- the cores have of the line what its entry says
 abbrev pub IsOfKind : (m : Words) (settled : ℕ) → EntryKind → (ℕ → Part) → Type 0

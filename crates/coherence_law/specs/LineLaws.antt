@@ -2,6 +2,7 @@
 -- assumed alone that it isn't before the clock.
 use Rattle.std.specs.Prelude.{ℕ, ◌≡◌, ◌≢◌, ◌<◌, ◌≤◌, Bool, true, false, Option, None, Some}
 use Rattle.std.specs.Option.{option_map}
+use Rattle.slack_base.specs.declared.bounds.TheConstants.{MOST_CORES}
 use Rattle.slack_base.specs.declared.stamps.Id.{Id}
 use Rattle.slack_base.specs.declared.messages.Words.{Words}
 use Rattle.slack_base.specs.declared.messages.Ask.TheVariants.{Read, ReadOwn, WriteBack, Flush}
@@ -54,13 +55,13 @@ WritesBack = (t c grant line : ℕ) (d : Delays) (id : Id) (h : HeldLine) (x : L
 -- a snoop that is due is applied, and its Flush is served
 abbrev pub Snoops : Type 0
 Snoops = (t c due grant line : ℕ) (own : Bool) (d : Delays) (id : Id) (x : Line) → (x.parts c).snoop ≡ Some (due, own) → due ≤ t
-    → t ≤ grant → id.core ≡ c → c < 8
+    → t ≤ grant → id.core ≡ c → c < MOST_CORES
     → Invariant t x → IsServed t d grant (Flush id line (option_map (λ h. h.words) (x.parts c).held)) (with_part c (snooped_part own (x.parts c)) x)
 
 -- a core that doesn't hold the line misses it to read, and its Read is served
 abbrev pub Reads : Type 0
 Reads = (t c grant line : ℕ) (d : Delays) (id : Id) (x : Line) → (x.parts c).held ≡ None → (x.parts c).want ≡ Nothing
-    → t ≤ grant → id.core ≡ c → c < 8
+    → t ≤ grant → id.core ≡ c → c < MOST_CORES
     → Invariant t x → IsServed t d grant (Read id line) (with_part c (asking_part (x.parts c)) x)
 
 -- the line isn't held so that it may be written
@@ -71,7 +72,7 @@ IsUnwritable (Some h) = may_write h.held ≡ false
 -- a core that may not write the line misses it to write, and its ReadOwn is served: a snoop comes sooner than memory
 abbrev pub Owns : Type 0
 Owns = (t c grant line : ℕ) (d : Delays) (id : Id) (x : Line) → IsUnwritable (x.parts c).held → (x.parts c).want ≡ Nothing
-    → t ≤ grant → id.core ≡ c → c < 8 → d.snoop < d.memory
+    → t ≤ grant → id.core ≡ c → c < MOST_CORES → d.snoop < d.memory
     → Invariant t x → IsServed t d grant (ReadOwn id line) (with_part c (asking_part (x.parts c)) x)
 
 -- the clock goes on to where nothing is late

@@ -98,12 +98,14 @@ const ZERO: Words = Words {
     w2: 0,
     w3: 0,
 };
+
 const FIRST_SET: Words = Words {
     w0: 1,
     w1: 0,
     w2: 0,
     w3: 0,
 };
+
 const LAST_SET: Words = Words {
     w0: 0,
     w1: 0,
@@ -176,7 +178,10 @@ fn lines_that_break(rt: HostRuntime) -> Result<(), Fail> {
     let target = RvTarget::make(alloc, config, &image)?;
     let mut machine = start(alloc, &target, &image)?;
     let lines = broken(alloc, &target, &machine)?;
-    assert_eq!(rt; coherence_text(alloc, &lines)?.as_slice(), b"coherence 0\n".as_slice());
+    assert_eq!(rt;
+        coherence_text(alloc, &lines)?.as_slice(),
+        b"coherence 0\n".as_slice()
+    );
     machine.cores = cores_of(alloc, &target)?;
     let lines = breaks(alloc, &machine)?;
     assert_eq!(rt; lines.as_slice(), [3, 4, 5, 6].as_slice());

@@ -1,4 +1,4 @@
-use Rattle.std.proofs.Common.{◌≡◌, ◌∙◌, ◌++◌, ◌+◌, ◌<◌, ◌∷◌, [], sym, ap, subst, append_assoc}
+use Rattle.std.proofs.Common.{◌∙◌, ◌++◌, ◌+◌, ◌<◌, ◌∷◌, [], sym, ap, subst, append_assoc}
 use Rattle.lockstep_model.specs.Views.{machine_of, values_of}
 use Rattle.coherence_law.specs.Breaks.{is_coherent, lines_in}
 use Rattle.coherence_law.proofs.Testing.{broken_from, broken_here, broken_later}
