@@ -169,25 +169,29 @@ fn cores_of(alloc: Global, target: &RvTarget) -> Result<Row<TimedCore>, OutOfMem
     Ok(cores)
 }
 
-/// Cores that were given lines by hand.
-#[test]
-fn lines_that_break(rt: HostRuntime) -> Result<(), Fail> {
-    let alloc = rt.alloc();
-    let config = config_of(&rt);
+/// The lines that break where the cores of a machine of so little code were given lines by hand.
+fn breaks_of_given(alloc: Global, config: Config) -> Result<LineList, OutOfMemory>
+    requires { (config.base ≡ 0) × (config.memory ≡ 8192) }
+{
     let image = image_of(alloc, &[0])?;
     let target = RvTarget::make(alloc, config, &image)?;
     let mut machine = start(alloc, &target, &image)?;
-    let lines = broken(alloc, &target, &machine)?;
-    assert_eq!(rt;
-        coherence_text(alloc, &lines)?.as_slice(),
-        b"coherence 0\n".as_slice()
-    );
     machine.cores = cores_of(alloc, &target)?;
-    let lines = breaks(alloc, &machine)?;
+    breaks(alloc, &machine)
+}
+
+#[test]
+fn lines_that_break(rt: HostRuntime) -> Result<(), Fail> {
+    let alloc = rt.alloc();
+    let lines = breaks_of_given(alloc, config_of(&rt))?;
     assert_eq!(rt; lines.as_slice(), [3, 4, 5, 6].as_slice());
     assert_eq!(rt;
         coherence_text(alloc, &lines)?.as_slice(),
         b"coherence 4\nbroken line 3\nbroken line 4\nbroken line 5\nbroken line 6\n".as_slice()
+    );
+    assert_eq!(rt;
+        coherence_text(alloc, &LineList::new(alloc))?.as_slice(),
+        b"coherence 0\n".as_slice()
     );
     Ok(())
 }
