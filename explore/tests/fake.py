@@ -10,18 +10,19 @@ import os
 import signal
 import sys
 import time
+from typing import NoReturn
 
 NUMBERS = {"cores": (1, 1, 8), "ways": (4, 1, 8), "snoop": (2, 1, 63), "memory_delay": (10, 1, 64), "limit": (1000000, 1, 100000000), "seed": (1, 0, 9)}
 
 
-def end(status, fault=""):
+def end(status: int, fault: str = "") -> NoReturn:
     if fault:
         sys.stderr.write(f"slacksim: {fault}\n")
     sys.exit(status)
 
 
-def options_of(words):
-    given = {}
+def options_of(words: list[str]) -> tuple[dict[str, int], list[str]]:
+    given: dict[str, str] = {}
     for place in range(1, len(words), 2):
         name, value = words[place].removeprefix("--").replace("-", "_"), words[place + 1]
         if name not in (*NUMBERS, "format", "notes") or (name == "seed") > (words[0] == "gen"):
@@ -38,7 +39,7 @@ def options_of(words):
     return options, [f"{name}={value}" for name, value in given.items()]
 
 
-def count(path, words):
+def count(path: str, words: list[str]) -> int:
     """Notes a call, and says how many runs were noted before it."""
     with open(path, "a+") as log:
         log.seek(0)
@@ -47,7 +48,7 @@ def count(path, words):
     return before
 
 
-def report(options, ends):
+def report(options: dict[str, int], ends: list[tuple[str, int]]) -> None:
     cores = [
         {"accesses": 100 * (core + 1), "at": 9, "end": kind, "misses": 40 // options["ways"], "value": value}
         for core, (kind, value) in enumerate(ends)
@@ -56,7 +57,7 @@ def report(options, ends):
     print(json.dumps({"buses": [{"asks": 7, "free": 3}], "console": "", "cores": cores, "cycles": cycles}))
 
 
-def run(words, lines):
+def run(words: list[str], lines: list[list[str]]) -> NoReturn:
     options, given = options_of(words)
     ends, status = [("exit", 0)] * options["cores"], 0
     for kind, *rest in lines:
@@ -80,7 +81,7 @@ def run(words, lines):
     end(status)
 
 
-def main():
+def main() -> NoReturn:
     words = sys.argv[1:]
     if words[0] == "gen":
         run(words, [])

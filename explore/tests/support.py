@@ -2,6 +2,7 @@
 
 import csv
 import importlib.util
+import os
 import subprocess
 import sys
 import tempfile
@@ -12,6 +13,8 @@ TOP = Path(__file__).resolve().parent.parent.parent
 FAKE = Path(__file__).with_name("fake.py")
 TOOL = TOP / "explore/explore"
 REAL = TOP / "crates/slacksim/out/slacksim"
+# How long a call or a part of a cluster may take, on a machine that is busy with other work too.
+SECONDS = 120
 POINTS = "[options]\ncores = [1, 2]\nways = [1, 2, 4]\n"
 
 
@@ -30,6 +33,8 @@ class StudyTest(unittest.TestCase):
         self.program.write_text(f"#!{sys.executable} -IS\n{FAKE.read_text()}")
         self.program.chmod(0o755)
         self.log, self.out = self.folder / "log", self.folder / "out"
+        # What the tool's environment has beside that of the tests.
+        self.settings: dict[str, str] = {}
 
     def study(self, text: str, *image: str) -> Path:
         (self.folder / "image").write_text("\n".join(["FAKE", *image]))
@@ -38,7 +43,8 @@ class StudyTest(unittest.TestCase):
         return path
 
     def tool(self, *words: str | Path) -> subprocess.CompletedProcess[str]:
-        return subprocess.run([sys.executable, TOOL, *words], capture_output=True, text=True, timeout=60)
+        environment = {**os.environ, **self.settings}
+        return subprocess.run([sys.executable, TOOL, *words], capture_output=True, text=True, timeout=SECONDS, env=environment)
 
     def run_study(self, *more: str | Path, status: int | None = 0) -> str:
         """Runs the study, and gives what was said."""

@@ -4,6 +4,7 @@ import json
 import tempfile
 import unittest
 from pathlib import Path
+from typing import Any
 from unittest.mock import patch
 
 from explore.faults import Refused
@@ -12,7 +13,7 @@ from explore.programs import Answer, Program
 from explore.results import Table, read_table, row_of, write_whole
 
 # A report of two cores and two buses: core 0 exited, core 1 was trapped.
-REPORT = {
+REPORT: dict[str, Any] = {
     "buses": [{"asks": 8, "free": 17, "retries": 5}, {"asks": 2, "free": 9, "retries": 1}],
     "console": "41",
     "cores": [
