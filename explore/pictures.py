@@ -54,7 +54,7 @@ def draw(axes: Axes, lines: list[Line], form: str) -> bytes:
     matplotlib = needed("matplotlib", "python3-matplotlib", "plot")
     figures = needed("matplotlib.figure", "python3-matplotlib", "plot")
     # Texts stay texts, and the same table gives the same bytes.
-    matplotlib.rcParams.update({"svg.fonttype": "none", "svg.hashsalt": "slacksim"})
+    matplotlib.rcParams.update({"svg.fonttype": "none", "svg.hashsalt": "slacksim", "font.sans-serif": ["DejaVu Sans"]})
     figure = figures.Figure(figsize=INCHES, layout="constrained")
     _fill(figure.add_subplot(), axes, lines)
     picture = io.BytesIO()
@@ -72,10 +72,12 @@ def _fill(plot: Any, axes: Axes, lines: list[Line]) -> None:
         plot.set_xscale("log", base=2)
     if axes.log_y:
         plot.set_yscale("log")
+    else:
+        plot.set_ylim(bottom=0)
     _mark_points(plot, {place for line in lines for place, _ in line.points})
     plot.grid(alpha=0.3)
     if axes.lines:
-        plot.legend()
+        plot.legend(loc="upper left", bbox_to_anchor=(1.01, 1))
 
 
 def _mark_points(plot: Any, places: set[Value]) -> None:
@@ -92,4 +94,6 @@ def label_of(name: str) -> str:
 
 
 def _label_of_term(term: Term) -> str:
-    return f"{term.over} / {term.under}" if term.under else label_of(str(term.over))
+    if not term.under:
+        return label_of(str(term.over))
+    return " / ".join(f"({column})" if column.others else str(column) for column in term.columns())

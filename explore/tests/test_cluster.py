@@ -25,7 +25,11 @@ def wait_until(holds: Callable[[], bool], what: str) -> None:
 
 
 @unittest.skipUnless(has("distributed"), "python3-distributed isn't there")
-class Cluster(StudyTest):
+class ClusterTest(StudyTest):
+    """A test with a scheduler of its own."""
+
+    failures = "3"
+
     def setUp(self) -> None:
         super().setUp()
         self.address_file = self.folder / "scheduler.json"
@@ -37,7 +41,8 @@ class Cluster(StudyTest):
         command = [sys.executable, "-m", f"distributed.cli.dask_{kind}", "--scheduler-file", str(self.address_file), *words]
         log = open(self.folder / f"{kind}.log", "ab")
         self.addCleanup(log.close)
-        part = subprocess.Popen(command, cwd=self.folder, stdout=log, stderr=log, env={**os.environ, "OMP_NUM_THREADS": "1"})
+        environment = {**os.environ, "DASK_DISTRIBUTED__SCHEDULER__ALLOWED_FAILURES": self.failures}
+        part = subprocess.Popen(command, cwd=self.folder, stdout=log, stderr=log, env=environment)
         self.addCleanup(part.wait)
         self.addCleanup(part.kill)
         return part
@@ -64,6 +69,8 @@ class Cluster(StudyTest):
         table, self.out = (self.out / "results.csv").read_bytes(), out
         return table
 
+
+class Cluster(ClusterTest):
     def test_the_same_table_as_here(self) -> None:
         self.study(STUDY, "trap ways=2 cores=2", "limit ways=4")
         self.worker(), self.worker()
@@ -121,6 +128,23 @@ class Cluster(StudyTest):
         self.assertIn("the host ended 12 of the points", said)
         self.assertRegex(self.rows()[0]["cause"], "^not started by tcp://127.0.0.1:.*: No such file or directory$")
         interpreter.symlink_to(sys.executable)
+        self.run_study("--scheduler", self.address())
+        self.assertEqual((self.out / "results.csv").read_bytes(), self.local_table())
+
+
+class StrictCluster(ClusterTest):
+    """A cluster that gives a point up with the first worker that is lost with it."""
+
+    failures = "0"
+
+    def test_points_that_are_given_up(self) -> None:
+        self.study(STUDY, f"parent {self.folder / 'runs'} 3")
+        self.worker(), self.worker()
+        self.run_study("--scheduler", self.address(), status=1)
+        given_up = [row["cause"] for row in self.rows() if "status" not in row]
+        self.assertGreaterEqual(len(given_up), 1)
+        self.assertRegex(given_up[0], "^given up by the cluster: KilledWorker: ")
+        self.assertEqual(len(self.rows()), 12)
         self.run_study("--scheduler", self.address())
         self.assertEqual((self.out / "results.csv").read_bytes(), self.local_table())
 
