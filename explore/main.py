@@ -12,7 +12,8 @@ from explore.progress import progress
 from explore.results import STUDY, Results, Row, Table, held, is_final, read_table, write_whole
 from explore.studies import read_study
 
-PROGRAM = Path(__file__).resolve().parent.parent / "crates/slacksim/out/slacksim"
+TOP = Path(__file__).resolve().parent.parent
+LAUNCHER, PROGRAM = TOP / "slacksim", TOP / "crates/slacksim/out/slacksim"
 
 
 def main(words: list[str]) -> int:
@@ -42,15 +43,17 @@ def _parser() -> argparse.ArgumentParser:
     run.add_argument("study", type=Path, help="the study file, in TOML")
     run.add_argument("--out", type=Path, required=True, metavar="FOLDER", help="the folder of the results")
     run.add_argument("--program", type=Path, default=PROGRAM, metavar="PATH", help="the built program (default: %(default)s)")
-    run.add_argument("--jobs", type=_count, default=runs.processors(), metavar="N", help="points at once on this machine (default: one for each processor)")
+    run.add_argument("--jobs", type=_count, default=runs.processors(), metavar="N", help="points at once here (default: one for each processor)")
     run.add_argument("--scheduler", metavar="ADDRESS", help="run the points on the Dask cluster of this scheduler, as tcp://host:8786")
     plot = commands.add_parser("plot", help="draw a study's results")
     plot.set_defaults(command=plot_results)
     plot.add_argument("results", type=Path, help="the folder of the results")
     plot.add_argument("--x", required=True, metavar="COLUMN", help="what goes to the right")
-    plot.add_argument("--y", required=True, metavar="TERM", help="what goes up: a column, or a ratio, as misses/accesses or cycles@cores=1/cycles")
+    up = "what goes up: a column, or a ratio, as misses/accesses or cycles@cores=1/cycles"
+    plot.add_argument("--y", required=True, metavar="TERM", help=up)
     plot.add_argument("--lines", metavar="COLUMN", help="one line for each value of this column")
-    plot.add_argument("--where", action="append", default=[], type=_pair, metavar="OPTION=VALUE", help="only the points with this value; may be given several times")
+    where = "only the points with this value; may be given several times"
+    plot.add_argument("--where", action="append", default=[], type=_pair, metavar="OPTION=VALUE", help=where)
     plot.add_argument("--log-x", action="store_true", help="a logarithmic axis to the right")
     plot.add_argument("--log-y", action="store_true", help="a logarithmic axis up")
     plot.add_argument("-o", "--output", type=Path, required=True, metavar="FILE", help="the picture, .svg or .png")
@@ -58,28 +61,29 @@ def _parser() -> argparse.ArgumentParser:
 
 
 def _count(text: str) -> int:
-    count = int(text)
-    if count < 1:
-        raise ValueError(text)
-    return count
+    if not text.isdecimal() or int(text) < 1:
+        raise argparse.ArgumentTypeError("a number from 1 is wanted")
+    return int(text)
 
 
 def _pair(text: str) -> tuple[str, str]:
     name, equals, value = text.partition("=")
     if not equals:
-        raise ValueError(text)
+        raise argparse.ArgumentTypeError("OPTION=VALUE is wanted")
     return name, value
 
 
 def run_study(args: argparse.Namespace) -> int:
     """Runs a study, and writes its table whenever points have ended."""
+    if args.program.resolve() == LAUNCHER:
+        raise Refused(f"{args.program} is the launcher, whose bytes don't tell what it runs: give the program that it built")
     study, program = read_study(args.study), Program(args.program)
     points = points_of(study, program)
     checks.check(study, points, program, args.jobs)
     with held(args.out):
         results = Results(args.out, program, points, option_names(points))
         if results.left_out:
-            say(f"{results.left_out} rows that were in the table are of other points, another image or program, or unfinished, and are left out")
+            say(f"{results.left_out} rows of the table are of other points, image or program, or unfinished, and aren't kept")
         left = [point for point in points if not results.has(point)]
         write_whole(args.out / STUDY, study.data)
         results.write()

@@ -36,6 +36,18 @@ class Program:
         if not os.access(self.path, os.X_OK):
             raise Refused(f"the program {path} is no executable file")
         self.digest = hashlib.sha256(self.data).hexdigest()
+        self.stamp = self._stamp()
+
+    def is_changed(self) -> bool:
+        """Whether the file may have been written since its digest was taken."""
+        return self._stamp() != self.stamp
+
+    def _stamp(self) -> tuple[int, int, int] | None:
+        try:
+            found = os.stat(self.path)
+        except OSError:
+            return None
+        return found.st_ino, found.st_size, found.st_mtime_ns
 
     def call(self, words: list[str], data: bytes) -> Answer:
         """Calls the program with these words after its name and this input."""

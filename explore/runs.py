@@ -4,6 +4,7 @@ import os
 from collections.abc import Iterator
 from concurrent.futures import FIRST_COMPLETED, ThreadPoolExecutor, wait
 
+from explore.faults import Refused
 from explore.points import Point
 from explore.programs import Answer, Program
 
@@ -24,6 +25,8 @@ def run_here(program: Program, points: list[Point], jobs: int) -> Batches:
         try:
             while left:
                 ended, _ = wait(left, return_when=FIRST_COMPLETED)
+                if program.is_changed():
+                    raise Refused(f"{program.path} was changed while it ran; what ended before is kept")
                 yield [(left.pop(it), it.result()) for it in ended]
         finally:
             for it in left:

@@ -2,7 +2,7 @@
 
 An image is FAKE and lines of words: `trap ways=4` traps the last core where the point has these words, and so do `limit`,
 `code`, `memory` and `kill`, for what the words say; `log FILE` notes each call, `delay SECONDS` makes a run last, and
-`parent FILE N` kills the caller in the N-th run.
+`parent FILE N` kills the caller in the N-th run, and `change FILE ways=4` adds a comment to this program.
 """
 
 import json
@@ -69,6 +69,9 @@ def run(words: list[str], lines: list[list[str]]) -> NoReturn:
             time.sleep(float(rest[0]))
         elif kind == "parent" and count(rest[0], words) + 1 == int(rest[1]):
             os.kill(os.getppid(), signal.SIGKILL)
+        elif kind == "change" and set(rest[1:]) <= set(given):
+            with open(rest[0], "a") as program:
+                program.write("# changed\n")
         elif kind == "kill" and set(rest) <= set(given):
             os.kill(os.getpid(), signal.SIGKILL)
         elif kind == "memory" and set(rest) <= set(given):

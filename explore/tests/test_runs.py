@@ -6,7 +6,7 @@ import io
 import os
 
 from explore.progress import Counter
-from explore.tests.support import POINTS, StudyTest
+from explore.tests.support import POINTS, TOP, StudyTest
 
 IMAGE = 'image = "image"\n'
 
@@ -82,7 +82,17 @@ class Again(StudyTest):
         self.study(IMAGE + POINTS)
         self.run_study()
         self.study(IMAGE + POINTS.replace("4]", "8]"))
-        self.assertIn("2 rows that were in the table", self.run_study())
+        self.assertIn("2 rows of the table", self.run_study())
+
+    def test_a_program_that_changes_meanwhile(self) -> None:
+        self.study(IMAGE + POINTS, f"change {self.program} ways=4 cores=1")
+        self.assertIn("was changed while it ran", self.run_study("--jobs", "1", status=2))
+        self.assertLess(len(self.rows()), 3)
+
+    def test_the_launcher_is_no_program(self) -> None:
+        self.study(IMAGE)
+        self.program = TOP / "slacksim"
+        self.assertIn("is the launcher", self.run_study(status=2))
 
     def test_a_table_of_something_else(self) -> None:
         self.study(IMAGE)
