@@ -161,11 +161,14 @@ class Results:
 def write_whole(path: Path, data: bytes) -> None:
     """Writes a file beside its place and then puts it there, so that what is there is always whole."""
     part = path.with_name(path.name + ".part")
-    with open(part, "wb") as file:
-        file.write(data)
-        file.flush()
-        os.fsync(file.fileno())
-    os.replace(part, path)
+    try:
+        with open(part, "wb") as file:
+            file.write(data)
+            file.flush()
+            os.fsync(file.fileno())
+        os.replace(part, path)
+    except OSError as fault:
+        raise Refused(f"{path}: {fault.strerror}") from fault
 
 
 @contextmanager

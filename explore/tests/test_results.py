@@ -85,6 +85,10 @@ class Tables(unittest.TestCase):
         write_whole(path, b"after")
         self.assertEqual([(it.name, it.read_text()) for it in self.folder.iterdir()], [("results.csv", "after")])
 
+    def test_a_file_that_cannot_be_written(self) -> None:
+        with self.assertRaisesRegex(Refused, "none/results.csv: No such file"):
+            write_whole(self.folder / "none/results.csv", b"after")
+
     def test_tables_that_are_none(self) -> None:
         for data in (b"", b"a,b\n1,2\n", b"ways,status,cause\n1,2,3\n", TEXT.encode() + b'"', b"\xff"):
             (self.folder / "results.csv").write_bytes(data)
