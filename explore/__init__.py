@@ -1,0 +1,1 @@
+"""Studies: many runs of the simulator, their table and their pictures."""
