@@ -7,6 +7,7 @@ pub mod Flushes
 pub mod Grants
 pub mod Held
 pub mod Holders
+pub mod Listed
 pub mod Parts
 pub mod Pending
 pub mod Posts

@@ -1,5 +1,5 @@
 -- The lines of a machine that are not coherent, as a test finds them.
-use Rattle.std.specs.Prelude.{ℕ, ◌≡◌, ◌==◌, ◌&&◌, ◌||◌, Bool, true, false, not, List, Option, None, Some, count_by, filter, nat_le, sum_by}
+use Rattle.std.specs.Prelude.{ℕ, ◌<◌, ◌≡◌, ◌==◌, ◌&&◌, ◌||◌, Bool, true, false, not, List, All, AllPairs, Contains, Option, None, Some, count_by, filter, nat_le, sum_by}
 use Rattle.std.specs.List.{range_with_len, list_all, list_any}
 use Rattle.slack_base.specs.declared.messages.Words.{Words}
 use Rattle.slack_base.specs.Inboxes.{CoreValue}
@@ -62,3 +62,17 @@ pub record IsTest (m : StateValue HartValue ChannelValue) (line : ℕ) : Type 0 
 
 abbrev pub AllTests : Type 0
 AllTests = (m : StateValue HartValue ChannelValue) (line : ℕ) → IsTest m line
+
+-- the line is one of memory, and isn't coherent
+pub record IsBroken (m : StateValue HartValue ChannelValue) (line : ℕ) : Type 0 where
+  pub inside : line < lines_in m.chans
+  pub broken : IsCoherent m line → ⊥
+
+-- the list has all lines that are broken, and no other, in rising order
+pub record AreBreaks (m : StateValue HartValue ChannelValue) (lines : List ℕ) : Type 0 where
+  pub rising : AllPairs (λ low high. low < high) lines
+  pub each : All (IsBroken m) lines
+  pub all : (line : ℕ) → IsBroken m line → Contains lines line
+
+abbrev pub AllListed : Type 0
+AllListed = (m : StateValue HartValue ChannelValue) → AreBreaks m (breaks_of m)

@@ -1,11 +1,13 @@
 //! What holds of coherence. Nothing is computed here.
-ghost use Rattle.coherence_law.specs.Breaks.{AllTests};
+ghost use Rattle.coherence_law.specs.Breaks.{AllListed, AllTests};
 ghost use Rattle.coherence_law.specs.LineLaws.{Clocks, Coherent, Fills, Invalidates, Losses, Owns, Reads, Retries, Snoops, Writes, WritesBack};
 ghost use Rattle.coherence_law.specs.Unbroken.{AllCoherent, NoBreaks, NoBreaksOf};
 
-/// The test of a line passes exactly where the line is coherent, in any state.
+/// In any state the test of a line passes exactly where the line is coherent, and the list of those that fail it has all
+/// lines of memory that aren't coherent, and no other, in rising order.
 pub fn law_of_breaks()
-    ensures { AllTests }
+    ensures test { AllTests }
+    ensures listed { AllListed }
 {}
 
 /// The protocol of one line. Each step keeps the invariant, and the invariant makes the line coherent.
