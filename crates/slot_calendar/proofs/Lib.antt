@@ -1,0 +1,5 @@
+pub mod Ends
+pub mod Ids
+pub mod Inserting
+pub mod Lists
+pub mod Orders

@@ -1,0 +1,62 @@
+-- Facts of each item, and what a filter keeps.
+use Rattle.std.proofs.Common.{◌≡◌, ℕ, ◌<◌, zero, suc, List, [], ◌∷◌, ◌++◌, length, get_or, take, drop, Bool, true, false, cond, refl, ap, ◌∙◌, arith}
+use Rattle.std.specs.List.{filter, AllByRecursion as Each}
+
+module _ {X : Type 0} where
+  pub each_weaker : {P Q : X → Type 0} → ((x : X) → P x → Q x) → (xs : List X) → Each P xs → Each Q xs
+  each_weaker f [] h = tt
+  each_weaker f (x ∷ xs) h = (f x h.0, each_weaker f xs h.1)
+
+  pub each_append : (P : X → Type 0) (xs ys : List X) → Each P xs → Each P ys → Each P (xs ++ ys)
+  each_append P [] ys h k = k
+  each_append P (x ∷ xs) ys h k = (h.0, each_append P xs ys h.1 k)
+
+  pub each_take : (P : X → Type 0) (n : ℕ) (xs : List X) → Each P xs → Each P (take n xs)
+  each_take P zero xs h = tt
+  each_take P (suc n) [] h = tt
+  each_take P (suc n) (x ∷ xs) h = (h.0, each_take P n xs h.1)
+
+  pub each_drop : (P : X → Type 0) (n : ℕ) (xs : List X) → Each P xs → Each P (drop n xs)
+  each_drop P zero xs h = h
+  each_drop P (suc n) [] h = tt
+  each_drop P (suc n) (x ∷ xs) h = each_drop P n xs h.1
+
+  -- the item at a place
+  pub each_at : (P : X → Type 0) (xs : List X) (n : ℕ) (d : X) → n < length xs → Each P xs → P (get_or xs n d)
+  each_at P [] n d l h = absurd (omega arith)
+  each_at P (x ∷ xs) zero d l h = h.0
+  each_at P (x ∷ xs) (suc n) d l h = each_at P xs n d (omega arith) h.1
+
+  -- none is behind the last
+  pub each_past : (P : X → Type 0) (xs : List X) → Each P (drop (length xs) xs)
+  each_past P [] = tt
+  each_past P (x ∷ xs) = each_past P xs
+
+  -- one item more from behind
+  pub each_more : (P : X → Type 0) (xs : List X) (n : ℕ) (d : X) → n < length xs → P (get_or xs n d) → Each P (drop (suc n) xs) → Each P (drop n xs)
+  each_more P [] n d l p h = absurd (omega arith)
+  each_more P (x ∷ xs) zero d l p h = (p, h)
+  each_more P (x ∷ xs) (suc n) d l p h = each_more P xs n d (omega arith) p h
+
+module _ {X : Type 0} (p : X → Bool) where
+  pub filter_case : (x : X) (xs : List X) (R : List X → Type 0) → (p x ≡ true → R (x ∷ filter p xs)) → (p x ≡ false → R (filter p xs)) → R (filter p (x ∷ xs))
+  filter_case x xs R on off = elim (p x) as (λ b. p x ≡ b → R (cond b (x ∷ filter p xs) (filter p xs))) [ true ↦ on | false ↦ off ] refl
+
+  pub filter-yes : (x : X) (xs : List X) → p x ≡ true → filter p (x ∷ xs) ≡ x ∷ filter p xs
+  filter-yes x xs h = ap (λ b. cond b (x ∷ filter p xs) (filter p xs)) h
+
+  pub filter-no : (x : X) (xs : List X) → p x ≡ false → filter p (x ∷ xs) ≡ filter p xs
+  filter-no x xs h = ap (λ b. cond b (x ∷ filter p xs) (filter p xs)) h
+
+  pub filter_all : (xs : List X) → Each (λ x. p x ≡ true) xs → filter p xs ≡ xs
+  filter_all [] h = refl
+  filter_all (x ∷ xs) h = filter-yes x xs h.0 ∙ ap (λ ys. x ∷ ys) (filter_all xs h.1)
+
+  pub filter_none : (xs : List X) → Each (λ x. p x ≡ false) xs → filter p xs ≡ []
+  filter_none [] h = refl
+  filter_none (x ∷ xs) h = filter-no x xs h.0 ∙ filter_none xs h.1
+
+  pub filter_same : (q : X → Bool) (xs : List X) → Each (λ x. p x ≡ q x) xs → filter p xs ≡ filter q xs
+  filter_same q [] h = refl
+  filter_same q (x ∷ xs) h =
+      ap (λ b. cond b (x ∷ filter p xs) (filter p xs)) h.0 ∙ ap (λ ys. cond (q x) (x ∷ ys) ys) (filter_same q xs h.1)
