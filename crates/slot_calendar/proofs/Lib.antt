@@ -1,5 +1,8 @@
+pub mod Commuting
 pub mod Ends
 pub mod Ids
 pub mod Inserting
 pub mod Lists
 pub mod Orders
+pub mod Swaps
+pub mod Turns

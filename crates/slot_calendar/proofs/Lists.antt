@@ -60,3 +60,15 @@ module _ {X : Type 0} (p : X → Bool) where
   filter_same q [] h = refl
   filter_same q (x ∷ xs) h =
       ap (λ b. cond b (x ∷ filter p xs) (filter p xs)) h.0 ∙ ap (λ ys. cond (q x) (x ∷ ys) ys) (filter_same q xs h.1)
+
+  -- facts of what passes, and of what doesn't
+  pub each_passed : (Q : X → Type 0) (xs : List X) → Each Q (filter p xs) → Each (λ x. p x ≡ true → Q x) xs
+  each_passed Q [] = λ h. tt
+  each_passed Q (x ∷ xs) =
+      filter_case x xs (λ l. Each Q l → Each (λ y. p y ≡ true → Q y) (x ∷ xs))
+      (λ on h. (λ _. h.0, each_passed Q xs h.1))
+      (λ off h. (λ on. absurd (cc), each_passed Q xs h))
+
+  pub each_off : (xs : List X) → filter p xs ≡ [] → Each (λ x. p x ≡ false) xs
+  each_off [] = λ e. tt
+  each_off (x ∷ xs) = filter_case x xs (λ l. l ≡ [] → Each (λ y. p y ≡ false) (x ∷ xs)) (λ on e. absurd (cc)) (λ off e. (off, each_off xs e))

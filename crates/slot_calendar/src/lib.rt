@@ -4,6 +4,7 @@
 
 pub mod calendars;
 mod entries;
+pub mod laws;
 mod openings;
 pub mod slots;
 
