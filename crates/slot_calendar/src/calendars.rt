@@ -107,3 +107,6 @@ impl Calendar {
         end
     }
 }
+
+#[cfg(test)]
+mod tests;
