@@ -1,11 +1,11 @@
 -- The greatest end of slots is that of their greatest grant.
-use Rattle.std.proofs.Common.{◌≡◌, ◌∙◌, ℕ, ◌-◌, ◌≤◌, zero, suc, max, List, [], ◌∷◌, ◌++◌, length, take, drop, map, slice_get, Option, Some, None, sym, ap, subst, arith}
+use Rattle.std.proofs.Common.{◌≡◌, refl, subst, ◌∙◌, ℕ, ◌-◌, ◌≤◌, zero, suc, min, max, List, [], ◌∷◌, ◌++◌, length, take, drop, map, slice_get, Option, Some, None, sym, ap, arith}
 use Rattle.slack_base.specs.declared.bounds.TheConstants.{TOP}
 use Rattle.slack_base.specs.declared.stamps.Id.{Id}
 use Rattle.slot_calendar.specs.declared.entries.Entry.{Entry}
 use Rattle.slot_calendar.specs.declared.slots.Slot.{Slot}
 use Rattle.slot_calendar.specs.Slots.{end_of, last_end, below, clash, grant_by, grant_in}
-use Rattle.slot_calendar.specs.Entries.{slots_of, latest_of, AreRunning, raised_to}
+use Rattle.slot_calendar.specs.Entries.{slots_of, latest_of, earliest_of, AreRunning, AreComing, raised_to, lowered_to}
 
 pub latest_of_last : (latest : ℕ) (entries : List Entry) (e : Entry) → Some e ≡ slice_get entries (length entries - 1) → e.latest ≡ latest_of latest entries
 latest_of_last latest [] e is = absurd (cc)
@@ -75,16 +75,15 @@ running_take latest zero entries h = tt
 running_take latest (suc n) [] h = tt
 running_take latest (suc n) (e ∷ entries) h = (h.0, running_take e.latest n entries h.1)
 
-running_drop : (latest n : ℕ) (entries : List Entry) → AreRunning latest entries → AreRunning (latest_of latest (take n entries)) (drop n entries)
-running_drop latest zero entries h = h
-running_drop latest (suc n) [] h = tt
-running_drop latest (suc n) (e ∷ entries) h = running_drop e.latest n entries h.1
+running_parts : (latest : ℕ) (xs ys : List Entry) → AreRunning latest (xs ++ ys) → AreRunning latest xs × AreRunning (latest_of latest xs) ys
+running_parts latest [] ys h = (tt, h)
+running_parts latest (e ∷ xs) ys h = let rest = running_parts e.latest xs ys h.1 in ((h.0, rest.0), rest.1)
 
 running_join : (latest : ℕ) (xs ys : List Entry) → AreRunning latest xs → AreRunning (latest_of latest xs) ys → AreRunning latest (xs ++ ys)
 running_join latest [] ys h k = k
 running_join latest (e ∷ xs) ys h k = (h.0, running_join e.latest xs ys h.1 k)
 
--- behind one more grant
+-- with one more grant before them, or behind them
 running_raised : (latest grant : ℕ) (entries : List Entry) → AreRunning latest entries → AreRunning (max latest grant) (map (raised_to grant) entries)
 running_raised latest grant [] h = tt
 running_raised latest grant (e ∷ entries) h = (swap e.latest latest e.slot.grant grant h.0, running_raised e.latest grant entries h.1)
@@ -92,8 +91,71 @@ running_raised latest grant (e ∷ entries) h = (swap e.latest latest e.slot.gra
     swap : (l m n g : ℕ) → l ≡ max m n → max l g ≡ max (max m g) n
     swap l m n g h = omega arith
 
-pub running_insert : (n : ℕ) (entries : List Entry) (e : Entry) → AreRunning 0 entries → e.latest ≡ max (latest_of 0 (take n entries)) e.slot.grant
-    → AreRunning 0 (take n entries ++ e ∷ map (raised_to e.slot.grant) (drop n entries))
-running_insert n entries e h is =
-    running_join 0 (take n entries) (e ∷ map (raised_to e.slot.grant) (drop n entries)) (running_take 0 n entries h)
-    (is, subst (λ l. AreRunning l (map (raised_to e.slot.grant) (drop n entries))) (sym is) (running_raised (latest_of 0 (take n entries)) e.slot.grant (drop n entries) (running_drop 0 n entries h)))
+running_lowered : (latest grant : ℕ) (entries : List Entry) → AreRunning latest entries → AreRunning latest (map (lowered_to grant) entries)
+running_lowered latest grant [] h = tt
+running_lowered latest grant (e ∷ entries) h = (h.0, running_lowered e.latest grant entries h.1)
+
+latest-lowered : (latest grant : ℕ) (entries : List Entry) → latest_of latest (map (lowered_to grant) entries) ≡ latest_of latest entries
+latest-lowered latest grant [] = refl
+latest-lowered latest grant (e ∷ entries) = latest-lowered e.latest grant entries
+
+coming_raised : (grant : ℕ) (entries : List Entry) → AreComing entries → AreComing (map (raised_to grant) entries)
+coming_raised grant [] h = tt
+coming_raised grant (e ∷ entries) h = (h.0 ∙ first e.slot.grant entries, coming_raised grant entries h.1)
+  where
+    first : (g : ℕ) (entries : List Entry) → earliest_of g entries ≡ earliest_of g (map (raised_to grant) entries)
+    first g [] = refl
+    first g (e ∷ entries) = refl
+
+pub coming_drop : (n : ℕ) (entries : List Entry) → AreComing entries → AreComing (drop n entries)
+coming_drop zero entries h = h
+coming_drop (suc n) [] h = tt
+coming_drop (suc n) (e ∷ entries) h = coming_drop n entries h.1
+
+-- an entry between others
+module _ (e : Entry) where
+  abbrev grant : ℕ
+  grant = e.slot.grant
+
+  abbrev pub with_entry : (earlier later : List Entry) → List Entry
+  with_entry earlier later = map (lowered_to grant) earlier ++ e ∷ map (raised_to grant) later
+
+  pub running_between : (earlier later : List Entry) → AreRunning 0 (earlier ++ later) → e.latest ≡ max (latest_of 0 earlier) grant → AreRunning 0 (with_entry earlier later)
+  running_between earlier later h is =
+      let parts = running_parts 0 earlier later h in
+      running_join 0 (map (lowered_to grant) earlier) (e ∷ map (raised_to grant) later) (running_lowered 0 grant earlier parts.0) (
+        is ∙ ap (λ n. max n grant) (sym (latest-lowered 0 grant earlier)),
+        subst (λ l. AreRunning l (map (raised_to grant) later)) (sym is) (running_raised (latest_of 0 earlier) grant later parts.1),
+      )
+
+  coming_before : (earlier later : List Entry) → AreComing (earlier ++ later) → AreComing (e ∷ map (raised_to grant) later) → e.earliest ≡ earliest_of grant later → AreComing (with_entry earlier later)
+  coming_before [] later h k is = k
+  coming_before (q ∷ earlier) later h k is = (next earlier h.0, coming_before earlier later h.1 k is)
+    where
+      last : (a b c n : ℕ) → n ≡ min a b → c ≡ min grant b → min n grant ≡ min a c
+      last a b c n h k = omega arith
+
+      alone : (a c n : ℕ) → n ≡ a → c ≡ grant → min n grant ≡ min a c
+      alone a c n h k = omega arith
+
+      inner : (a b n : ℕ) → n ≡ min a b → min n grant ≡ min a (min b grant)
+      inner a b n h = omega arith
+
+      at_last : (later : List Entry) → q.earliest ≡ earliest_of q.slot.grant later → e.earliest ≡ earliest_of grant later → min q.earliest grant ≡ min q.slot.grant e.earliest
+      at_last [] h k = alone q.slot.grant e.earliest q.earliest h k
+      at_last (r ∷ later) h k = last q.slot.grant r.earliest e.earliest q.earliest h k
+
+      next : (earlier : List Entry) → q.earliest ≡ earliest_of q.slot.grant (earlier ++ later) → min q.earliest grant ≡ earliest_of q.slot.grant (with_entry earlier later)
+      next [] h = at_last later h is
+      next (r ∷ earlier) h = inner q.slot.grant r.earliest q.earliest h
+
+  pub coming_between : (earlier later : List Entry) → AreComing (earlier ++ later) → e.earliest ≡ earliest_of grant later → AreComing (with_entry earlier later)
+  coming_between earlier later h is = coming_before earlier later h (is ∙ same later, coming_raised grant later (behind earlier h)) is
+    where
+      same : (later : List Entry) → earliest_of grant later ≡ earliest_of grant (map (raised_to grant) later)
+      same [] = refl
+      same (q ∷ later) = refl
+
+      behind : (earlier : List Entry) → AreComing (earlier ++ later) → AreComing later
+      behind [] h = h
+      behind (q ∷ earlier) h = behind earlier h.1

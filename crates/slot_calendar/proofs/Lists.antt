@@ -1,5 +1,5 @@
 -- Facts of each item, and what a filter keeps.
-use Rattle.std.proofs.Common.{◌≡◌, ℕ, ◌<◌, zero, suc, List, [], ◌∷◌, ◌++◌, length, get_or, take, drop, Bool, true, false, cond, refl, ap, ◌∙◌, arith}
+use Rattle.std.proofs.Common.{◌≡◌, ℕ, ◌<◌, ◌≤◌, zero, suc, List, [], ◌∷◌, ◌++◌, length, get_or, take, drop, Bool, true, false, cond, refl, ap, ◌∙◌, arith}
 use Rattle.std.specs.List.{filter, AllByRecursion as Each}
 
 module _ {X : Type 0} where
@@ -32,11 +32,11 @@ module _ {X : Type 0} where
   each_past P [] = tt
   each_past P (x ∷ xs) = each_past P xs
 
-  -- one item more from behind
-  pub each_more : (P : X → Type 0) (xs : List X) (n : ℕ) (d : X) → n < length xs → P (get_or xs n d) → Each P (drop (suc n) xs) → Each P (drop n xs)
-  each_more P [] n d l p h = absurd (omega arith)
-  each_more P (x ∷ xs) zero d l p h = (p, h)
-  each_more P (x ∷ xs) (suc n) d l p h = each_more P xs n d (omega arith) p h
+  pub each_at_front : (P : X → Type 0) (xs : List X) (n m : ℕ) (d : X) → n < m → m ≤ length xs → Each P (take m xs) → P (get_or xs n d)
+  each_at_front P [] n m d some within h = absurd (omega arith)
+  each_at_front P (x ∷ xs) n zero d some within h = absurd (omega arith)
+  each_at_front P (x ∷ xs) zero (suc m) d some within h = h.0
+  each_at_front P (x ∷ xs) (suc n) (suc m) d some within h = each_at_front P xs n m d (omega arith) (omega arith) h.1
 
 module _ {X : Type 0} (p : X → Bool) where
   pub filter_case : (x : X) (xs : List X) (R : List X → Type 0) → (p x ≡ true → R (x ∷ filter p xs)) → (p x ≡ false → R (filter p xs)) → R (filter p (x ∷ xs))

@@ -1,7 +1,6 @@
 -- Slots and entries in the order of their ids.
-use Rattle.std.proofs.Common.{◌≡◌, ◌∙◌, ℕ, ◌-◌, ◌<◌, ◌≤◌, ◌&&◌, zero, suc, max, nat_lt, Bool, true, false, cond, List, [], ◌∷◌, ◌++◌, length, get_or, take, drop, map, Some, None, refl, sym, ap, subst, arith, take-append-drop, append-nil}
+use Rattle.std.proofs.Common.{◌≡◌, ◌∙◌, ℕ, ◌-◌, ◌<◌, ◌≤◌, ◌&&◌, zero, suc, nat_lt, Bool, true, false, cond, List, [], ◌∷◌, ◌++◌, length, get_or, take, drop, map, Some, refl, sym, ap, subst, arith, take-append-drop, append-nil}
 use Rattle.std.specs.List.{filter, AllByRecursion as Each}
-use Rattle.std.proofs.lemmas.Bool.Decides.{nat_tests}
 use Rattle.std.proofs.lemmas.List.{map-append}
 use Rattle.std.proofs.lemmas.List.Elements.{filter-append}
 use Rattle.slack_base.specs.declared.stamps.Id.{Id}
@@ -10,10 +9,9 @@ use Rattle.slack_base.specs.Stamps.{is_above}
 use Rattle.slot_calendar.specs.declared.entries.Entry.{Entry}
 use Rattle.slot_calendar.specs.declared.slots.Slot.{Slot}
 use Rattle.slot_calendar.specs.Slots.{IsInOrder, greatest_id, below, in_way, with_slot}
-use Rattle.slot_calendar.specs.Entries.{slots_of, latest_of, AreKept, raised_to, IsPlace}
-use Rattle.slot_calendar.proofs.Ends.{running_insert}
+use Rattle.slot_calendar.specs.Entries.{slots_of, IsPlace}
 use Rattle.slot_calendar.proofs.Ids.{up_to, above_self, above_back, above_low, same_id}
-use Rattle.slot_calendar.proofs.Lists.{each_weaker, each_take, each_at, each_more, filter_case, filter-yes, filter_all, filter_none, filter_same}
+use Rattle.slot_calendar.proofs.Lists.{each_weaker, each_take, each_at, filter_case, filter-yes, filter_all, filter_none, filter_same}
 
 -- facts of slots and of entries
 pub slots_each : (P : Slot → Type 0) (entries : List Entry) → Each (λ e. P e.slot) entries → Each P (slots_of entries)
@@ -30,9 +28,9 @@ slots-append xs ys = map-append (λ (e : Entry). e.slot) xs ys
 pub slots-split : (n : ℕ) (entries : List Entry) → slots_of entries ≡ slots_of (take n entries) ++ slots_of (drop n entries)
 slots-split n entries = ap slots_of (sym (take-append-drop n entries)) ∙ slots-append (take n entries) (drop n entries)
 
-pub slots-raised : (grant : ℕ) (entries : List Entry) → slots_of (map (raised_to grant) entries) ≡ slots_of entries
-slots-raised grant [] = refl
-slots-raised grant (e ∷ entries) = ap (λ slots. e.slot ∷ slots) (slots-raised grant entries)
+pub slots-map : (f : Entry → Entry) → ((e : Entry) → (f e).slot ≡ e.slot) → (entries : List Entry) → slots_of (map f entries) ≡ slots_of entries
+slots-map f same [] = refl
+slots-map f same (e ∷ entries) = ap (λ s. s ∷ slots_of (map f entries)) (same e) ∙ ap (λ slots. e.slot ∷ slots) (slots-map f same entries)
 
 -- parts of what is in order
 pub in_order_take : (n : ℕ) (entries : List Entry) → IsInOrder (slots_of entries) → IsInOrder (slots_of (take n entries))
@@ -48,6 +46,14 @@ pub in_order_drop : (n : ℕ) (entries : List Entry) → IsInOrder (slots_of ent
 in_order_drop zero entries h = h
 in_order_drop (suc n) [] h = tt
 in_order_drop (suc n) (e ∷ entries) h = in_order_drop n entries h.1
+
+pub in_order_at : (entries : List Entry) (i j : ℕ) (d : Entry) → IsInOrder (slots_of entries) → i ≤ j → j < length entries → is_above (get_or entries i d).slot.id (get_or entries j d).slot.id ≡ false
+in_order_at [] i j d o le l = absurd (omega arith)
+in_order_at (q ∷ entries) zero zero d o le l = above_self q.slot.id
+in_order_at (q ∷ entries) zero (suc j) d o le l =
+    each_at (λ r. is_above q.slot.id r.slot.id ≡ false) entries j d (omega arith) (entries_each (λ r. is_above q.slot.id r.id ≡ false) entries o.0)
+in_order_at (q ∷ entries) (suc i) zero d o le l = absurd (omega arith)
+in_order_at (q ∷ entries) (suc i) (suc j) d o le l = in_order_at entries i j d o.1 (omega arith) (omega arith)
 
 -- up to an entry none has an id above its own
 pub none_above_it : (entries : List Entry) (n : ℕ) (d : Entry) → IsInOrder (slots_of entries) → n < length entries
@@ -79,36 +85,6 @@ greatest_is_last p (q ∷ entries) (suc n) d o l on off =
     ] refl)
     (λ _. rest)
 
--- what begins before a limit, looked for from behind
-off_of : (m n : ℕ) → n ≤ m → nat_lt m n ≡ false
-off_of m n h = grind (arith, nat_tests)
-
-on_of : (m n : ℕ) → m < n → nat_lt m n ≡ true
-on_of m n h = grind (arith, nat_tests)
-
-abbrev AreLate : (limit : ℕ) → List Entry → Type 0
-AreLate limit entries = Each (λ e. nat_lt e.slot.grant limit ≡ false) entries
-
-module _ (limit : ℕ) (entries : List Entry) (n : ℕ) where
-  last_place : 0 < n → suc (n - 1) ≡ n
-  last_place some = omega arith
-
-  pub late_more : (d : Entry) → 0 < n → n ≤ length entries → limit ≤ (get_or entries (n - 1) d).slot.grant → AreLate limit (drop n entries) → AreLate limit (drop (n - 1) entries)
-  late_more d some within late h =
-      each_more (λ e. nat_lt e.slot.grant limit ≡ false) entries (n - 1) d (omega arith) (off_of (get_or entries (n - 1) d).slot.grant limit late)
-      (subst (λ k. AreLate limit (drop k entries)) (sym (last_place some)) h)
-
-  pub greatest_found : (d : Entry) → IsInOrder (slots_of entries) → 0 < n → n ≤ length entries → (get_or entries (n - 1) d).slot.grant < limit → AreLate limit (drop n entries)
-      → Some (get_or entries (n - 1) d).slot.id ≡ greatest_id (filter (λ s. nat_lt s.grant limit) (slots_of entries))
-  greatest_found d o some within soon h =
-      sym (greatest_is_last (λ s. nat_lt s.grant limit) entries (n - 1) d o (omega arith) (on_of (get_or entries (n - 1) d).slot.grant limit soon)
-      (subst (λ k. AreLate limit (drop k entries)) (sym (last_place some)) h))
-
-  pub greatest_none : n ≤ 0 → AreLate limit (drop n entries) → None ≡ greatest_id (filter (λ s. nat_lt s.grant limit) (slots_of entries))
-  greatest_none none h =
-      let zero_is : n ≡ 0 = omega arith in
-      sym (ap greatest_id (filter_none (λ s. nat_lt s.grant limit) (slots_of entries) (slots_each (λ s. nat_lt s.grant limit ≡ false) entries (subst (λ k. AreLate limit (drop k entries)) zero_is h))))
-
 -- around the place of an id
 module _ (x : Id) (n : ℕ) (entries : List Entry) (at : IsPlace x n entries) where
   high_slots : Each (λ s. is_above s.id x ≡ true) (slots_of (drop n entries))
@@ -136,19 +112,6 @@ module _ (x : Id) (n : ℕ) (entries : List Entry) (at : IsPlace x n entries) wh
       (each_weaker (λ s h. ap (λ b. b && nat_lt s.grant limit) h) (slots_of (take n entries)) low_slots))
       ∙ filter_same (λ s. is_above s.id x && nat_lt s.grant limit) (λ s. nat_lt s.grant limit) (slots_of (drop n entries))
       (each_weaker (λ s h. ap (λ b. b && nat_lt s.grant limit) h) (slots_of (drop n entries)) high_slots)
-
--- the place that is found from behind
-pub place_is : (x : Id) (entries : List Entry) (n : ℕ) (d : Entry) → IsInOrder (slots_of entries) → 0 < n → n ≤ length entries → is_above (get_or entries (n - 1) d).slot.id x ≡ false
-    → Each (λ e. is_above e.slot.id x ≡ true) (drop n entries) → IsPlace x n entries
-place_is x entries n d o some within low high = record {
-  within = within;
-  low = subst (λ k. Each (λ e. is_above e.slot.id x ≡ false) (take k entries)) last
-      (each_weaker (λ e h. up_to e.slot.id (get_or entries (n - 1) d).slot.id x h low) (take (suc (n - 1)) entries) (none_above_it entries (n - 1) d o (omega arith)));
-  high = high;
-}
-  where
-    last : suc (n - 1) ≡ n
-    last = omega arith
 
 -- the slots below an id, counted from behind
 none_below : (x : Id) (entries : List Entry) → Each (λ e. is_above x e.slot.id ≡ false) entries → below x (slots_of entries) ≡ []
@@ -207,20 +170,3 @@ in_order-with_slot x (s ∷ slots) o =
           ((back, each_weaker (λ q low. up_to x.id s.id q.id back low) slots o.0), o)
       | false ↦ λ h. (each_with (λ q. is_above s.id q.id ≡ false) x slots h o.0, in_order-with_slot x slots o.1)
     ] refl
-
--- the entries with one more
-module _ (n : ℕ) (entries : List Entry) (e : Entry) (at : IsPlace e.slot.id n entries) where
-  abbrev pub with_entry : List Entry
-  with_entry = take n entries ++ e ∷ map (raised_to e.slot.grant) (drop n entries)
-
-  pub slots-with_entry : slots_of with_entry ≡ with_slot e.slot (slots_of entries)
-  slots-with_entry =
-      slots-append (take n entries) (e ∷ map (raised_to e.slot.grant) (drop n entries))
-      ∙ ap (λ slots. slots_of (take n entries) ++ e.slot ∷ slots) (slots-raised e.slot.grant (drop n entries))
-      ∙ sym (with_slot_in e.slot n entries at)
-
-  pub kept-with_entry : AreKept entries → e.latest ≡ max (latest_of 0 (take n entries)) e.slot.grant → AreKept with_entry
-  kept-with_entry kept latest = record {
-    order = subst IsInOrder (sym slots-with_entry) (in_order-with_slot e.slot (slots_of entries) kept.order);
-    running = running_insert n entries e kept.running latest;
-  }

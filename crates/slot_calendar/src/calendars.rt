@@ -3,7 +3,8 @@ ghost use Rattle.std.specs.Prelude.{◌≡◌, ◌≤◌, ◌↔◌, [], IsTrue,
 ghost use Rattle.slack_base.specs.declared.bounds.TheConstants.{TOP};
 ghost use Rattle.slot_calendar.specs.Slots.{IsInOrder, last_end, clash, grant_in, placed};
 
-use crate::entries::{Entry, insert, last_end};
+use crate::entries::{Entry, last_end};
+use crate::inserting::insert;
 use crate::openings::Opening;
 use crate::slots::Slot;
 use slack_base::{Id, OutOfMemory};

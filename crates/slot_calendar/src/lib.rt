@@ -4,6 +4,7 @@
 
 pub mod calendars;
 mod entries;
+mod inserting;
 pub mod laws;
 mod openings;
 pub mod slots;

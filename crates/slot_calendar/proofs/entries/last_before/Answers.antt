@@ -1,16 +1,11 @@
 use Rattle.std.proofs.Common.{arith}
-use Rattle.slot_calendar.proofs.Orders.{late_more, greatest_found, greatest_none}
+use Rattle.slot_calendar.proofs.Points.{none_counted, last_counted}
 use Rattle.slot_calendar.proofs.entries.last_before.Goals as goal
 
-pub returns-then-slot-limit : goal.returns-then-slot-limit
-returns-then-slot-limit c =
-    greatest_found c.args.limit c.args.entries.now c.loop-count.count _ c.requires c.loop-count-test.true c.loop-count.invariant.0 c.if-slot-limit.true c.loop-count.invariant.1
-
-pub loop-count-preserved : goal.loop-count-preserved
-loop-count-preserved c = (
-  omega (arith, c.loop-count.invariant.0),
-  late_more c.args.limit c.args.entries.now c.loop-count.count _ c.loop-count-test.true c.loop-count.invariant.0 c.if-slot-limit.false c.loop-count.invariant.1,
-)
+pub returns-then-count-eq0 : goal.returns-then-count-eq0
+returns-then-count-eq0 c = none_counted c.args.limit c.args.entries.now c.count_before-count.result c.if-count-eq0.true c.requires.coming c.count_before-count.ensures.late
 
 pub returns : goal.returns
-returns c = greatest_none c.args.limit c.args.entries.now c.loop-count.count c.loop-count-test.false c.loop-count.invariant.1
+returns c =
+    last_counted c.args.limit c.args.entries.now c.count_before-count.result _ c.requires.order c.requires.coming (omega (arith, c.if-count-eq0.false)) c.count_before-count.ensures.within
+    c.count_before-count.ensures.soon c.count_before-count.ensures.late

@@ -2,7 +2,7 @@ use Rattle.std.proofs.Common.{◌≡◌, ◌∙◌, ap, sym, max, take, filter, 
 use Rattle.slot_calendar.specs.Slots.{greatest_id, in_way, below, fit, end_of, last_end}
 use Rattle.slot_calendar.specs.Entries.{slots_of}
 use Rattle.slot_calendar.proofs.Orders.{in_order_take, in_order_drop, below_before, in_way_behind}
-use Rattle.slot_calendar.proofs.Ends.{running_take}
+use Rattle.slot_calendar.proofs.Ends.{running_take, coming_drop}
 use Rattle.slot_calendar.proofs.openings.Opening.find.Goals as goal
 
 pub count_below-below-requires : goal.count_below-below-requires
@@ -13,8 +13,8 @@ pub last_end-requires : goal.last_end-requires
 last_end-requires c =
     rw (c.split_at.ensures.front) (running_take 0 c.count_below-below.result (take c.place_of-place.result c.args.entries.now) (running_take 0 c.place_of-place.result c.args.entries.now c.requires.running))
 
-pub last_before-clash-requires : goal.last_before-clash-requires
-last_before-clash-requires c = rw (c.split_at.ensures.back) (in_order_drop c.place_of-place.result c.args.entries.now c.requires.order)
+pub last_before-clash-requires-clause-order : goal.last_before-clash-requires-clause-order
+last_before-clash-requires-clause-order c = rw (c.split_at.ensures.back) (in_order_drop c.place_of-place.result c.args.entries.now c.requires.order)
 
 -- the slots below are those before the count
 below_is : (c : goal.After-last_before-clash) → slots_of (take c.count_below-below.result c.split_at.result.0.now) ≡ below c.args.id (slots_of c.args.entries.now)
@@ -38,3 +38,6 @@ returns-clause-clash c =
     ∙ ap (λ entries. greatest_id (filter (λ s. nat_lt s.grant c.end_of.result) (slots_of entries))) c.split_at.ensures.back
     ∙ ap greatest_id (sym (in_way_behind c.args.id c.place_of-place.result c.args.entries.now c.place_of-place.ensures c.end_of.result))
     ∙ ap (λ limit. greatest_id (in_way limit c.args.id (slots_of c.args.entries.now))) (c.end_of.ensures ∙ ap (end_of c.args.occupancy) (fit_is c))
+
+pub last_before-clash-requires-clause-coming : goal.last_before-clash-requires-clause-coming
+last_before-clash-requires-clause-coming c = rw (c.split_at.ensures.back) (coming_drop c.place_of-place.result c.args.entries.now c.requires.coming)
