@@ -34,15 +34,15 @@ below x slots = filter (λ s. is_above x s.id) slots
 abbrev pub in_way : (limit : ℕ) → Id → List Slot → List Slot
 in_way limit x slots = filter (λ s. is_above s.id x && nat_lt s.grant limit) slots
 
--- when an ask would get the bus that comes behind all slots of ids below its own
+-- the ask's grant if no slot of a greater id were there: no sooner than its stamp, and behind all slots of lower ids
 abbrev pub fit : (occupancy free stamp : ℕ) → Id → List Slot → ℕ
 fit occupancy free stamp x slots = max stamp (last_end occupancy free (below x slots))
 
--- the greatest id above the ask's own whose slot begins before the ask would be done with the bus
+-- the greatest id above the ask's own whose slot begins before the ask, so granted, would be done with the bus
 abbrev pub clash : (occupancy free stamp : ℕ) → Id → List Slot → Option Id
 clash occupancy free stamp x slots = greatest_id (in_way (end_of occupancy (fit occupancy free stamp x slots)) x slots)
 
--- when the ask gets the bus: behind all slots, if there is a clash
+-- the ask's grant, by its clash: with one it comes behind all slots
 abbrev pub grant_by : Option Id → (occupancy free stamp : ℕ) → Id → List Slot → ℕ
 grant_by None occupancy free stamp x slots = fit occupancy free stamp x slots
 grant_by (Some high) occupancy free stamp x slots = max stamp (last_end occupancy free slots)
@@ -50,7 +50,7 @@ grant_by (Some high) occupancy free stamp x slots = max stamp (last_end occupanc
 abbrev pub grant_in : (occupancy free stamp : ℕ) → Id → List Slot → ℕ
 grant_in occupancy free stamp x slots = grant_by (clash occupancy free stamp x slots) occupancy free stamp x slots
 
--- the slot in its place: before the first of a greater id
+-- the slot in its place: before the first of a greater id, and so behind those of its own
 abbrev pub with_slot : Slot → List Slot → List Slot
 with_slot x [] = x ∷ []
 with_slot x (s ∷ slots) = if is_above s.id x.id then x ∷ s ∷ slots else s ∷ with_slot x slots

@@ -14,8 +14,8 @@ use std::marker::Model;
 /// The slots of the asks that a bus served since the calendar was closed, in the order of their ids; of equal ids the
 /// one served first stands first. A contract sees the list of them.
 ///
-/// What a call costs grows with the slots of greater ids alone: for asks in the order of their ids it is the same
-/// however many slots there are.
+/// An ask in the order of the ids costs the same however many slots there are. One that comes late finds its place and
+/// its clash in steps that halve the slots, and moves those of greater ids; if it clashes, it is counted in each of them.
 #[derive(Debug, Drop)]
 pub struct Calendar {
     entries: Vec<Entry>,

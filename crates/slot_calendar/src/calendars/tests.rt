@@ -105,6 +105,14 @@ fn ends_at_the_top(rt: HostRuntime) -> Result<(), Fail> {
     Ok(())
 }
 
+fn crosses<X: Send + Drop>() {}
+
+/// A calendar may go to another thread.
+#[test]
+fn goes_to_another_thread(_rt: HostRuntime) {
+    crosses::<Calendar>();
+}
+
 /// What comes into a calendar later leaves its copy as it was.
 #[test]
 fn a_copy_stands_alone(rt: HostRuntime) -> Result<(), Fail> {
