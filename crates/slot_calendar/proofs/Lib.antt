@@ -1,0 +1,9 @@
+pub mod Changes
+pub mod Commuting
+pub mod Ends
+pub mod Ids
+pub mod Lists
+pub mod Orders
+pub mod Points
+pub mod Swaps
+pub mod Turns
