@@ -12,7 +12,9 @@ use Rattle.slack_base.specs.Inboxes.{CoreValue, tick_by, ticks_by}
 use Rattle.timed_core.specs.Code.{CodeValue, word_at}
 use Rattle.timed_core.specs.Cores.{HartValue, is_running}
 use Rattle.timed_core.specs.Ticks.{asks_of, id_at, fetched, stepped, tick}
-use Rattle.timed_core.specs.Stretches.{stretch, IsStretch, IsLeap, IsReady, AreTicks, rest_of}
+use Rattle.timed_core.specs.Stretches.{stretch, IsStretch, IsLeap, AreTicks, rest_of}
+use Rattle.timed_core.specs.Outcomes.{IsReady, Does, ask_of}
+use Rattle.timed_core.specs.declared.outcomes.Outcome.{Outcome}
 use Rattle.timed_core.specs.declared.harts.stretches.Stretch.{Stretch}
 use Rattle.timed_core.proofs.Due.{later_than, none_due, all_later}
 
@@ -187,6 +189,17 @@ stretch_on code from t first old new end le lt silent s =
       asks = s.asks ∙ ap (λ r. r.1) all;
       last = ap (λ n. (stretch code from n first).1) (sym near) ∙ ap (λ r. r.1) (on (end.next - t - 1)) ∙ s.last;
     }
+
+-- an instruction behind a stretch that asked for nothing
+pub instruction_on : (code : CodeValue) (from t : ℕ) (first hart new : HartValue) (id : Id) (outcome : Outcome) → from ≤ t
+    → stretch code from (t - from) first ≡ (hart, []) → IsReady hart → id ≡ id_at t hart 0
+    → Does (fetched code (word_at code hart.pc) id hart) id new outcome
+    → IsStretch code from first new (record { next = t + 1; ask = ask_of outcome id })
+instruction_on code from t first hart new id outcome le silent ready is does =
+    let out = fetched code (word_at code hart.pc) id hart in
+    let one : (new, ask_of outcome id) ≡ stepped code (id_at t hart 0) hart =
+    ap (λ h. (h, ask_of outcome id)) does.after ∙ ap (λ a. (out.0, a)) does.ask ∙ sym (ready_step code id hart ready) ∙ ap (λ i. stepped code i hart) is in
+    stretch_on code from t first hart new (record { next = t + 1; ask = ask_of outcome id }) le (omega arith) silent (step_stretch code t hart new (ask_of outcome id) one)
 
 module _ (code : CodeValue) where
   abbrev ticks_on : (t k : ℕ) → CoreValue HartValue × List Ask → CoreValue HartValue × List Ask

@@ -1,5 +1,5 @@
 -- Cycles of a core, one after another, with no new post.
-use Rattle.std.specs.Prelude.{◌≡◌, ℕ, ◌+◌, ◌-◌, ◌&&◌, false, true, zero, suc, List, [], ◌++◌, min, not, if◌then◌else◌}
+use Rattle.std.specs.Prelude.{◌≡◌, ℕ, ◌+◌, ◌-◌, ◌&&◌, zero, suc, List, [], ◌++◌, min, not, if◌then◌else◌}
 use Rattle.slack_base.specs.declared.messages.Ask.{Ask}
 use Rattle.slack_base.specs.Inboxes.{CoreValue, ticks_by}
 use Rattle.stamp_queue.specs.Inbox.{next_due}
@@ -31,12 +31,6 @@ pub record AreTicks (code : CodeValue) (t next : ℕ) (old new : CoreValue HartV
 -- so many cycles lead from one hart to the other and ask for nothing, whatever the code and the cycle
 abbrev pub IsLeap : (k : ℕ) → HartValue → HartValue → Type 0
 IsLeap k old new = (code : CodeValue) (t : ℕ) → stretch code t k old ≡ (new, [])
-
--- the hart executes an instruction in its next cycle
-pub record IsReady (core : HartValue) : Type 0 where
-  pub running : is_running core.ended ≡ true
-  pub free : core.busy ≡ 0
-  pub awake : core.waiting ≡ false
 
 -- for how many of so many cycles a hart to which no post comes surely asks for nothing: for all of them once it has
 -- ended or while it waits for a line, and else while it is busy

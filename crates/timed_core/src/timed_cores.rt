@@ -156,8 +156,8 @@ impl TimedCore {
         let before = out.len();
         apply_due(&mut self.hart, &mut self.inbox, code.base(), cycle, out)?;
         let id = id_at(cycle, &self.hart, out.len() - before);
-        let ask = self.hart.step(code, id);
-        send(ask, out)
+        let outcome = self.hart.step(code, id);
+        send(outcome.ask(id), out)
     }
 
     /// Ticks from a cycle on, one after another, with no new post: up to the cycle `until`, or up to the first in which

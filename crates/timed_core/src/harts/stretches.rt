@@ -3,10 +3,12 @@ ghost use Rattle.std.specs.Prelude.{◌≡◌, ◌+◌, ◌-◌, ◌<◌, ◌≤
 ghost use Rattle.slack_base.specs.Growing.{capped};
 ghost use Rattle.slack_base.specs.declared.bounds.TheConstants.{TOP};
 ghost use Rattle.timed_core.specs.Ticks.{id_at};
-ghost use Rattle.timed_core.specs.Stretches.{IsStretch, IsLeap, IsReady, rest_of};
+ghost use Rattle.timed_core.specs.Outcomes.{IsReady};
+ghost use Rattle.timed_core.specs.Stretches.{IsStretch, IsLeap, rest_of};
 
 use crate::code::Code;
 use crate::harts::Hart;
+use crate::outcomes::Outcome;
 use slack_base::{Ask, CoreEnd, Id, capped};
 
 /// The end of a stretch: the cycle after it, and what was asked for in its last cycle.
@@ -84,7 +86,7 @@ impl Hart {
         Stretch { next, ask: None }
     }
 
-    /// Some of the cycles from one on, before another: those in which nothing is executed, or the one in which an
+    /// Some of the cycles from one on, up to another: those in which nothing is executed, or else some in which an
     /// instruction is.
     fn part(&mut self, code: &Code, from: u64, until: u64) -> Stretch
         requires order { from < until }
@@ -99,14 +101,37 @@ impl Hart {
                 ask: None,
             };
         }
-        let ask = self.fetch(code, self.first_id(from));
-        Stretch {
-            next: from + 1,
-            ask,
+        self.run(code, from, until)
+    }
+
+    /// The cycles from one on, up to another, in each of which an instruction is executed: up to the first after which
+    /// the hart isn't ready for another.
+    fn run(&mut self, code: &Code, from: u64, until: u64) -> Stretch
+        requires order { from < until }
+        requires top { until ≤ TOP }
+        requires ready { IsReady self.old }
+        ensures next { (from < result.next) × (result.next ≤ until) }
+        ensures stretch { IsStretch code.now from self.old self.new result }
+    {
+        let mut next = from;
+        while next < until {
+            let id = self.first_id(next);
+            next += 1;
+            match self.fetch(code, id) {
+                Outcome::Ready => {}
+                outcome => {
+                    return Stretch {
+                        next,
+                        ask: outcome.ask(id),
+                    };
+                }
+            }
         }
+        Stretch { next, ask: None }
     }
 
     /// The id of the first ask in a cycle.
+    #[inline(always)]
     fn first_id(&self, cycle: u64) -> Id
         ensures { result ≡ id_at cycle self.now 0 }
     {

@@ -29,8 +29,8 @@ whole c =
 pub returns-clause-core : goal.returns-clause-core
 returns-clause-core c =
     let after = (whole c).after in
-    on_ok_weaker c.send.result (λ sent. ap (λ hart. record { inner = hart; inbox = c.apply_due.new.inbox }) c.step-ask.ensures.after ∙ after) c.send.ensures
+    on_ok_weaker c.send.result (λ sent. ap (λ hart. record { inner = hart; inbox = c.apply_due.new.inbox }) c.step-outcome.ensures.after ∙ after) c.send.ensures
 
 pub returns-clause-asks : goal.returns-clause-asks
 returns-clause-asks c =
-    on_ok_weaker c.send.result (λ sent. sent ∙ ap (λ ask. c.apply_due.new.out ++ asks_of ask) c.step-ask.ensures.ask ∙ (whole c).asks) c.send.ensures
+    on_ok_weaker c.send.result (λ sent. sent ∙ ap (λ ask. c.apply_due.new.out ++ asks_of ask) (c.ask.ensures ∙ c.step-outcome.ensures.ask) ∙ (whole c).asks) c.send.ensures
