@@ -8,7 +8,7 @@ use Rattle.mesi_cache.specs.declared.lines.CacheLine.{CacheLine}
 use Rattle.mesi_cache.specs.declared.lines.Held.{Held}
 use Rattle.mesi_cache.specs.Lines.{held_line}
 use Rattle.mesi_cache.specs.Words.{word_of}
-use Rattle.timed_core.specs.Accesses.{hits, word_in_line, hit, missed, looked_up}
+use Rattle.timed_core.specs.Accesses.{hits, word_in_line, hit, held_in, missed, looked_up, tried}
 use Rattle.timed_core.specs.Cores.{HartValue, line_number}
 use Rattle.timed_core.specs.declared.accesses.Access.{Access}
 use Rattle.timed_core.specs.declared.accesses.Access.TheVariants.{Load, Store, LoadReserved, StoreConditional, Amo}
@@ -51,3 +51,22 @@ hit_ready (Store op value) base address old core r = record { running = r.runnin
 hit_ready (LoadReserved rd) base address old core r = record { running = r.running; free = refl; awake = r.awake }
 hit_ready (StoreConditional rd value) base address old core r = record { running = r.running; free = refl; awake = r.awake }
 hit_ready (Amo op rd operand) base address old core r = record { running = r.running; free = refl; awake = r.awake }
+
+-- and the number as it is
+pub hit_number : (access : Access) (base address old : ℕ) (core : HartValue) → (hit access base address old 1 core).number ≡ core.number
+unfolding hit
+hit_number (Load op rd) base address old core = refl
+hit_number (Store op value) base address old core = refl
+hit_number (LoadReserved rd) base address old core = refl
+hit_number (StoreConditional rd value) base address old core = refl
+hit_number (Amo op rd operand) base address old core = refl
+
+-- every access but an SC looks its line up
+pub looks_up : (access : Access) (base address : ℕ) (id : Id) (core : HartValue) → ((rd value : ℕ) → access ≡ StoreConditional rd value → ⊥)
+    → tried access base address 1 id core ≡ looked_up (held_in core.cache (line_number base address)) access base address 1 id core
+unfolding tried
+looks_up (Load op rd) base address id core other = refl
+looks_up (Store op value) base address id core other = refl
+looks_up (LoadReserved rd) base address id core other = refl
+looks_up (StoreConditional rd value) base address id core other = absurd (other rd value refl)
+looks_up (Amo op rd operand) base address id core other = refl

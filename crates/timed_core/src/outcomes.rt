@@ -1,6 +1,6 @@
 //! What a cycle of a hart comes to.
-ghost use Rattle.std.specs.Prelude.{◌≡◌};
-ghost use Rattle.timed_core.specs.Outcomes.{ask_of, completion};
+ghost use Rattle.std.specs.Prelude.{◌≡◌, ◌↔◌, IsTrue};
+ghost use Rattle.timed_core.specs.Outcomes.{asks, ask_of, completion};
 
 use slack_base::{Ask, Id};
 
@@ -29,6 +29,28 @@ impl Outcome {
             Outcome::Ready
         } else {
             Outcome::Rests
+        }
+    }
+
+    /// Whether the hart is ready for its next instruction.
+    #[inline(always)]
+    pub fn is_ready(self) -> bool
+        ensures { IsTrue result ↔ (self ≡ Outcome.Ready) }
+    {
+        match self {
+            Outcome::Ready => true,
+            _ => false,
+        }
+    }
+
+    /// Whether something is asked for.
+    #[inline(always)]
+    pub fn asks(self) -> bool
+        ensures { result ≡ asks self }
+    {
+        match self {
+            Outcome::Ready | Outcome::Rests => false,
+            Outcome::Read { .. } | Outcome::ReadOwn { .. } | Outcome::Put { .. } => true,
         }
     }
 

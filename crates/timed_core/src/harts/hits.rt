@@ -8,7 +8,7 @@ ghost use Rattle.mesi_cache.specs.Places.{IsFoundIn};
 ghost use Rattle.timed_core.specs.Accesses.{is_aligned, hits, word_in_line, with_access, hit, missed, looked_up, failed, tried, accessed, held_in};
 ghost use Rattle.timed_core.specs.Cores.{line_number};
 ghost use Rattle.timed_core.specs.Effects.{WritesRegister};
-ghost use Rattle.timed_core.specs.Outcomes.{IsReady, Does, ask_of};
+ghost use Rattle.timed_core.specs.Outcomes.{IsReady, DoesAt};
 
 use crate::accesses::Access;
 use crate::code::Code;
@@ -16,7 +16,7 @@ use crate::harts::{Hart, line_number};
 use crate::outcomes::Outcome;
 use mesi_cache::Found;
 use rv_exec::{amo_result, load_part, store_part};
-use slack_base::{Id, Trap, raised};
+use slack_base::{Trap, raised};
 
 /// Which of the four words of its line an address is in.
 #[inline(always)]
@@ -28,40 +28,43 @@ fn word_in_line(address: u32) -> u32
 }
 
 impl Hart {
-    /// Accesses memory: alignment is checked first, then that the address is in memory. What is asked for has this
-    /// id.
+    /// Accesses memory: alignment is checked first, then that the address is in memory.
     #[inline(always)]
     #[tactic(auto, unfolding(crate::specs::Accesses::accessed))]
-    pub fn access(&mut self, code: &Code, access: Access, address: u32, id: Id) -> Outcome
-        requires top { id.cycle ≤ TOP }
+    pub fn access(&mut self, code: &Code, access: Access, address: u32, cycle: u64) -> Outcome
+        requires top { cycle ≤ TOP }
         requires ready { IsReady self.old }
         requires register { WritesRegister access }
-        ensures { Does (accessed code.now access address 1 id self.old) id self.new result }
+        ensures { DoesAt (λ id. accessed code.now access address 1 id self.old) cycle self.old self.new result }
     {
         if !access.is_aligned(address) {
-            return self.trap(id.cycle, Trap::Misaligned { address });
+            return self.trap(cycle, Trap::Misaligned { address });
         }
         if !code.is_in_memory(address) {
-            return self.trap(id.cycle, Trap::Outside { address });
+            return self.trap(cycle, Trap::Outside { address });
         }
-        self.try_access(access, code.base(), address, id)
+        self.try_access(access, code.base(), address, cycle)
     }
 
     /// Looks the line of an access up, but for an SC whose address isn't the reservation, which fails.
     #[inline(always)]
     #[tactic(auto, unfolding(crate::specs::Accesses::tried))]
-    fn try_access(&mut self, access: Access, base: u32, address: u32, id: Id) -> Outcome
+    fn try_access(&mut self, access: Access, base: u32, address: u32, cycle: u64) -> Outcome
         requires ready { IsReady self.old }
         requires aligned { IsTrue (is_aligned access (address % 4)) }
         requires register { WritesRegister access }
-        ensures { Does (tried access base address 1 id self.old) id self.new result }
+        ensures { DoesAt (λ id. tried access base address 1 id self.old) cycle self.old self.new result }
     {
-        if let Access::StoreConditional { rd, .. } = access
-            && self.reservation != Some(address)
-        {
-            return self.fail(rd);
+        let line = line_number(base, address);
+        match access {
+            Access::StoreConditional { rd, .. } => {
+                if self.reservation != Some(address) {
+                    return self.fail(rd);
+                }
+                self.look_up(access, line, address, cycle)
+            }
+            _ => self.look_up(access, line, address, cycle),
         }
-        self.look_up(access, line_number(base, address), address, id)
     }
 
     /// An SC that fails gives 1, and loses the reservation.
@@ -76,11 +79,11 @@ impl Hart {
 
     /// Does an access to its line if the cache holds it so that the access hits, and else asks for the line.
     #[inline(always)]
-    fn look_up(&mut self, access: Access, line: u32, address: u32, id: Id) -> Outcome
+    fn look_up(&mut self, access: Access, line: u32, address: u32, cycle: u64) -> Outcome
         requires ready { IsReady self.old }
         requires aligned { IsTrue (is_aligned access (address % 4)) }
         requires register { WritesRegister access }
-        ensures { (base : ℕ) → line ≡ line_number base address → Does (looked_up (held_in self.old.cache line) access base address 1 id self.old) id self.new result }
+        ensures { (base : ℕ) → line ≡ line_number base address → DoesAt (λ id. looked_up (held_in self.old.cache line) access base address 1 id self.old) cycle self.old self.new result }
     {
         let Some(found) = self.cache.find(line) else {
             return self.miss(access, line);
@@ -153,7 +156,7 @@ impl Hart {
 
     /// Waits for the line, which the access asks for.
     fn miss(&mut self, access: Access, line: u32) -> Outcome
-        ensures { (id : Id) → Does (missed access id line self.old) id self.new result }
+        ensures { (cycle : ℕ) → DoesAt (λ id. missed access id line self.old) cycle self.old self.new result }
     {
         self.waiting = true;
         self.counts.misses = raised(self.counts.misses);

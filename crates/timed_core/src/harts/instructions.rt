@@ -4,12 +4,10 @@ ghost use Rattle.std.specs.Prelude.{◌≡◌, ◌<◌, ◌≤◌, ◌%◌, ◌=
 ghost use Rattle.slack_base.specs.declared.bounds.TheConstants.{TOP};
 ghost use Rattle.rv_decode.specs.Ranges.{IsInRange};
 ghost use Rattle.timed_core.specs.Code.{CodeValue};
-ghost use Rattle.rv_exec.specs.Target.{target_of};
-ghost use Rattle.timed_core.specs.Accesses.{accessed};
 ghost use Rattle.timed_core.specs.Effects.{even_of, goes_to};
 ghost use Rattle.timed_core.specs.declared.effects.Effect.TheVariants.{Jump};
 ghost use Rattle.timed_core.specs.Kept.{instr_in};
-ghost use Rattle.timed_core.specs.Outcomes.{IsReady, Does, branching, executed};
+ghost use Rattle.timed_core.specs.Outcomes.{IsReady, DoesAt, branching, executed};
 ghost use Rattle.timed_core.specs.Ticks.{called, performed};
 
 use crate::accesses::Access;
@@ -18,7 +16,7 @@ use crate::harts::Hart;
 use crate::kept::Kept;
 use crate::outcomes::Outcome;
 use rv_exec::{alu, branch_taken, target, word};
-use slack_base::{AmoOp, BranchOp, CoreEnd, Id, LoadOp, RegOp, StoreOp, Trap};
+use slack_base::{BranchOp, CoreEnd, LoadOp, RegOp, StoreOp, Trap};
 
 /// The address without its lowest bit.
 #[inline(always)]
@@ -29,36 +27,36 @@ fn even(address: u32) -> u32
 }
 
 impl Hart {
-    /// Executes the instruction that is kept. What is asked for has this id.
+    /// Executes the instruction that is kept.
     #[rattlefmt::skip]
     #[inline(always)]
     #[tactic(auto, unfolding(crate::specs::Outcomes::executed, crate::specs::Effects::effect_of, crate::specs::Ticks::performed))]
-    pub fn execute(&mut self, code: &Code, kept: Kept, id: Id) -> Outcome
-        requires top { id.cycle ≤ TOP }
+    pub fn execute(&mut self, code: &Code, kept: Kept, cycle: u64) -> Outcome
+        requires top { cycle ≤ TOP }
         requires ready { IsReady self.old }
         requires kept { IsSomeAnd (instr_in kept) IsInRange }
-        ensures { Does (executed code.now (instr_in kept) id self.old) id self.new result }
+        ensures { DoesAt (λ id. executed code.now (instr_in kept) id self.old) cycle self.old self.new result }
     {
         match kept {
             Kept::Nothing => unreachable!(),
             Kept::Lui(rd, upper) => self.give(rd, upper << 12, 1),
             Kept::Auipc(rd, upper) => self.give(rd, self.pc.wrapping_add(upper << 12), 1),
-            Kept::Jal(rd, offset) => self.jump(rd, target(self.pc, offset), id),
-            Kept::Jalr(rd, rs1, offset) => self.jump(rd, even(target(self.x(rs1), offset)), id),
-            Kept::Beq(rs1, rs2, offset) => self.branch(BranchOp::Beq, rs1, rs2, target(self.pc, offset), id),
-            Kept::Bne(rs1, rs2, offset) => self.branch(BranchOp::Bne, rs1, rs2, target(self.pc, offset), id),
-            Kept::Blt(rs1, rs2, offset) => self.branch(BranchOp::Blt, rs1, rs2, target(self.pc, offset), id),
-            Kept::Bge(rs1, rs2, offset) => self.branch(BranchOp::Bge, rs1, rs2, target(self.pc, offset), id),
-            Kept::Bltu(rs1, rs2, offset) => self.branch(BranchOp::Bltu, rs1, rs2, target(self.pc, offset), id),
-            Kept::Bgeu(rs1, rs2, offset) => self.branch(BranchOp::Bgeu, rs1, rs2, target(self.pc, offset), id),
-            Kept::Lb(rd, rs1, offset) => self.load(code, LoadOp::Lb, rd, rs1, offset, id),
-            Kept::Lh(rd, rs1, offset) => self.load(code, LoadOp::Lh, rd, rs1, offset, id),
-            Kept::Lw(rd, rs1, offset) => self.load(code, LoadOp::Lw, rd, rs1, offset, id),
-            Kept::Lbu(rd, rs1, offset) => self.load(code, LoadOp::Lbu, rd, rs1, offset, id),
-            Kept::Lhu(rd, rs1, offset) => self.load(code, LoadOp::Lhu, rd, rs1, offset, id),
-            Kept::Sb(rs1, rs2, offset) => self.store(code, StoreOp::Sb, rs1, rs2, offset, id),
-            Kept::Sh(rs1, rs2, offset) => self.store(code, StoreOp::Sh, rs1, rs2, offset, id),
-            Kept::Sw(rs1, rs2, offset) => self.store(code, StoreOp::Sw, rs1, rs2, offset, id),
+            Kept::Jal(rd, offset) => self.jump(rd, target(self.pc, offset), cycle),
+            Kept::Jalr(rd, rs1, offset) => self.jump(rd, even(target(self.x(rs1), offset)), cycle),
+            Kept::Beq(rs1, rs2, offset) => self.branch(BranchOp::Beq, rs1, rs2, target(self.pc, offset), cycle),
+            Kept::Bne(rs1, rs2, offset) => self.branch(BranchOp::Bne, rs1, rs2, target(self.pc, offset), cycle),
+            Kept::Blt(rs1, rs2, offset) => self.branch(BranchOp::Blt, rs1, rs2, target(self.pc, offset), cycle),
+            Kept::Bge(rs1, rs2, offset) => self.branch(BranchOp::Bge, rs1, rs2, target(self.pc, offset), cycle),
+            Kept::Bltu(rs1, rs2, offset) => self.branch(BranchOp::Bltu, rs1, rs2, target(self.pc, offset), cycle),
+            Kept::Bgeu(rs1, rs2, offset) => self.branch(BranchOp::Bgeu, rs1, rs2, target(self.pc, offset), cycle),
+            Kept::Lb(rd, rs1, offset) => self.access(code, Access::Load { op: LoadOp::Lb, rd }, target(self.x(rs1), offset), cycle),
+            Kept::Lh(rd, rs1, offset) => self.access(code, Access::Load { op: LoadOp::Lh, rd }, target(self.x(rs1), offset), cycle),
+            Kept::Lw(rd, rs1, offset) => self.access(code, Access::Load { op: LoadOp::Lw, rd }, target(self.x(rs1), offset), cycle),
+            Kept::Lbu(rd, rs1, offset) => self.access(code, Access::Load { op: LoadOp::Lbu, rd }, target(self.x(rs1), offset), cycle),
+            Kept::Lhu(rd, rs1, offset) => self.access(code, Access::Load { op: LoadOp::Lhu, rd }, target(self.x(rs1), offset), cycle),
+            Kept::Sb(rs1, rs2, offset) => self.access(code, Access::Store { op: StoreOp::Sb, value: self.x(rs2) }, target(self.x(rs1), offset), cycle),
+            Kept::Sh(rs1, rs2, offset) => self.access(code, Access::Store { op: StoreOp::Sh, value: self.x(rs2) }, target(self.x(rs1), offset), cycle),
+            Kept::Sw(rs1, rs2, offset) => self.access(code, Access::Store { op: StoreOp::Sw, value: self.x(rs2) }, target(self.x(rs1), offset), cycle),
             Kept::Addi(rd, rs1, value) => self.give(rd, alu(RegOp::Add, self.x(rs1), word(value)), 1),
             Kept::Slti(rd, rs1, value) => self.give(rd, alu(RegOp::Slt, self.x(rs1), word(value)), 1),
             Kept::Sltiu(rd, rs1, value) => self.give(rd, alu(RegOp::Sltu, self.x(rs1), word(value)), 1),
@@ -86,26 +84,26 @@ impl Hart {
             Kept::Divu(rd, rs1, rs2) => self.give(rd, alu(RegOp::Divu, self.x(rs1), self.x(rs2)), 16),
             Kept::Rem(rd, rs1, rs2) => self.give(rd, alu(RegOp::Rem, self.x(rs1), self.x(rs2)), 16),
             Kept::Remu(rd, rs1, rs2) => self.give(rd, alu(RegOp::Remu, self.x(rs1), self.x(rs2)), 16),
-            Kept::Lr(rd, rs1, _, _) => self.access(code, Access::LoadReserved { rd }, self.x(rs1), id),
-            Kept::Sc(rd, rs1, rs2, _, _) => self.access(code, Access::StoreConditional { rd, value: self.x(rs2) }, self.x(rs1), id),
-            Kept::Amo(op, rd, rs1, rs2, _, _) => self.access(code, Access::Amo { op, rd, operand: self.x(rs2) }, self.x(rs1), id),
+            Kept::Lr(rd, rs1, _, _) => self.access(code, Access::LoadReserved { rd }, self.x(rs1), cycle),
+            Kept::Sc(rd, rs1, rs2, _, _) => self.access(code, Access::StoreConditional { rd, value: self.x(rs2) }, self.x(rs1), cycle),
+            Kept::Amo(op, rd, rs1, rs2, _, _) => self.access(code, Access::Amo { op, rd, operand: self.x(rs2) }, self.x(rs1), cycle),
             Kept::Fence(_) => self.go_on(1),
-            Kept::Ecall => self.call(id),
-            Kept::Ebreak => self.trap(id.cycle, Trap::Break { pc: self.pc }),
+            Kept::Ecall => self.call(cycle),
+            Kept::Ebreak => self.trap(cycle, Trap::Break { pc: self.pc }),
         }
     }
 
     /// Jumps to the target, and puts the address of the next instruction into a register.
     #[inline(always)]
     #[tactic(auto, unfolding(crate::specs::Ticks::performed))]
-    fn jump(&mut self, rd: u8, target: u32, id: Id) -> Outcome
-        requires top { id.cycle ≤ TOP }
+    fn jump(&mut self, rd: u8, target: u32, cycle: u64) -> Outcome
+        requires top { cycle ≤ TOP }
         requires ready { IsReady self.old }
         requires register { rd < 32 }
-        ensures { (code : CodeValue) → Does (performed code (goes_to target (Jump rd target)) 1 id self.old) id self.new result }
+        ensures { (code : CodeValue) → DoesAt (λ id. performed code (goes_to target (Jump rd target)) 1 id self.old) cycle self.old self.new result }
     {
         if target % 4 != 0 {
-            return self.trap(id.cycle, Trap::Target { target });
+            return self.trap(cycle, Trap::Target { target });
         }
         self.write(rd, self.pc.wrapping_add(4));
         self.complete(target, 1)
@@ -114,52 +112,27 @@ impl Hart {
     /// Branches to the target where the condition holds, and else goes on to the next instruction.
     #[inline(always)]
     #[tactic(auto, unfolding(crate::specs::Ticks::performed))]
-    fn branch(&mut self, op: BranchOp, rs1: u8, rs2: u8, target: u32, id: Id) -> Outcome
-        requires top { id.cycle ≤ TOP }
+    fn branch(&mut self, op: BranchOp, rs1: u8, rs2: u8, target: u32, cycle: u64) -> Outcome
+        requires top { cycle ≤ TOP }
         requires ready { IsReady self.old }
         requires registers { (rs1 < 32) × (rs2 < 32) }
-        ensures { (code : CodeValue) → Does (performed code (branching op rs1 rs2 target self.old.registers) 1 id self.old) id self.new result }
+        ensures { (code : CodeValue) → DoesAt (λ id. performed code (branching op rs1 rs2 target self.old.registers) 1 id self.old) cycle self.old self.new result }
     {
         if !branch_taken(op, self.x(rs1), self.x(rs2)) {
             return self.go_on(1);
         }
         if target % 4 != 0 {
-            return self.trap(id.cycle, Trap::Target { target });
+            return self.trap(cycle, Trap::Target { target });
         }
         self.complete(target, 1)
-    }
-
-    /// Loads a register.
-    #[inline(always)]
-    fn load(&mut self, code: &Code, op: LoadOp, rd: u8, rs1: u8, offset: i32, id: Id) -> Outcome
-        requires top { id.cycle ≤ TOP }
-        requires ready { IsReady self.old }
-        requires registers { (rd < 32) × (rs1 < 32) }
-        ensures { Does (accessed code.now (Access.Load op rd) (target_of (slice_index self.old.registers rs1) offset) 1 id self.old) id self.new result }
-    {
-        let address = target(self.x(rs1), offset);
-        self.access(code, Access::Load { op, rd }, address, id)
-    }
-
-    /// Stores a register.
-    #[inline(always)]
-    fn store(&mut self, code: &Code, op: StoreOp, rs1: u8, rs2: u8, offset: i32, id: Id) -> Outcome
-        requires top { id.cycle ≤ TOP }
-        requires ready { IsReady self.old }
-        requires registers { (rs1 < 32) × (rs2 < 32) }
-        ensures { Does (accessed code.now (Access.Store op (slice_index self.old.registers rs2)) (target_of (slice_index self.old.registers rs1) offset) 1 id self.old) id self.new result }
-    {
-        let address = target(self.x(rs1), offset);
-        let value = self.x(rs2);
-        self.access(code, Access::Store { op, value }, address, id)
     }
 
     /// Calls the service that x17 names.
     #[cold]
     #[tactic(auto, unfolding(crate::specs::Ticks::called))]
-    fn call(&mut self, id: Id) -> Outcome
-        requires { id.cycle ≤ TOP }
-        ensures { Does (called 4 id self.old) id self.new result }
+    fn call(&mut self, cycle: u64) -> Outcome
+        requires { cycle ≤ TOP }
+        ensures { DoesAt (λ id. called 4 id self.old) cycle self.old self.new result }
     {
         let service = self.registers[17];
         let argument = self.registers[10];
@@ -170,11 +143,11 @@ impl Hart {
             };
         }
         if service != 93 {
-            return self.trap(id.cycle, Trap::Call { number: service });
+            return self.trap(cycle, Trap::Call { number: service });
         }
         self.go_on(4);
         self.ended = CoreEnd::Exit {
-            at: id.cycle,
+            at: cycle,
             code: argument,
         };
         Outcome::Rests
