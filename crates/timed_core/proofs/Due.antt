@@ -1,5 +1,5 @@
 -- Posts that are taken one by one, and the due ones as one list.
-use Rattle.std.proofs.Common.{◌≡◌, ◌∙◌, ℕ, ◌+◌, ◌-◌, ◌<◌, true, false, List, [], ◌∷◌, ◌++◌, filter, length, nat_le, nat_lt, refl, sym, ap, arith, append-nil, append_assoc, length-append}
+use Rattle.std.proofs.Common.{◌≡◌, ◌∙◌, ℕ, ◌+◌, ◌-◌, ◌<◌, ◌≤◌, true, false, List, [], ◌∷◌, ◌++◌, filter, length, nat_le, nat_lt, refl, sym, ap, arith, append-nil, append_assoc, length-append}
 use Rattle.std.proofs.lemmas.Bool.Decides.{nat_tests}
 use Rattle.std.specs.List.{AllByRecursion}
 use Rattle.slack_base.specs.declared.messages.Ask.{Ask}
@@ -34,6 +34,11 @@ none_due t (p ∷ inbox) h = rw (not_due t p.due h.0) (none_due t inbox h.1)
 pub all_later : (t : ℕ) (inbox : List Post) → AllByRecursion (λ p. t < p.due) inbox → later_than t inbox ≡ inbox
 all_later t [] h = refl
 all_later t (p ∷ inbox) h = rw (is_later t p.due h.0) (ap (λ rest. p ∷ rest) (all_later t inbox h.1))
+
+-- posts that are due at a cycle at the earliest come later than each before it
+pub later_by : (t due : ℕ) (inbox : List Post) → t < due → AllByRecursion (λ p. due ≤ p.due) inbox → AllByRecursion (λ p. t < p.due) inbox
+later_by t due [] lt h = tt
+later_by t due (p ∷ inbox) lt h = (omega (arith, h.0), later_by t due inbox lt h.1)
 
 -- with no post that is due nothing changes
 pub none_through : (base t before : ℕ) (hart : HartValue) (inbox : List Post) (out : List Ask) → AllByRecursion (λ p. t < p.due) inbox →

@@ -1,10 +1,12 @@
 pub mod AccessSteps
 pub mod Due
 pub mod Fetching
+pub mod Hits
 pub mod OwnCaches
 pub mod InstructionSteps
 pub mod Keeping
 pub mod Lawful
 pub mod PostSteps
+pub mod Reaching
 pub mod Steps
 pub mod Stretches

@@ -4,6 +4,7 @@ pub mod Cores
 pub mod Effects
 pub mod Kept
 pub mod Laws
+pub mod Outcomes
 pub mod Posts
 pub mod Stretches
 pub mod Ticks

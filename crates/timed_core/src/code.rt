@@ -36,6 +36,7 @@ impl Code {
     ghost use Rattle.slack_base.specs.Images.{Fits};
     ghost use Rattle.slack_base.specs.Numbers.{numbers_of};
     ghost use Rattle.timed_core.specs.Code.{word_at, instr_at, is_in_memory, code_of};
+    ghost use Rattle.timed_core.specs.Kept.{instr_in};
     ghost use Rattle.rv_decode.specs.Ranges.{IsInRange};
 
     /// The instruction memory of an image that fits the configuration.
@@ -54,6 +55,7 @@ impl Code {
     }
 
     /// The least address of memory.
+    #[inline(always)]
     pub fn base(&self) -> u32
         ensures { result ≡ self.now.base }
     {
@@ -61,6 +63,7 @@ impl Code {
     }
 
     /// Whether the address is in memory.
+    #[inline(always)]
     pub fn is_in_memory(&self, address: u32) -> bool
         ensures { result ≡ is_in_memory self.now address }
     {
@@ -82,18 +85,27 @@ impl Code {
         Some(LittleEndian::read_u32(&self.bytes[offset..]))
     }
 
-    /// The instruction at an address: none where there is no word, and where the word stands for none.
-    #[tactic(auto, unfolding(crate::specs::Code::word_at))]
+    /// The instruction at an address: none where there is no word, and where the word stands for none. It is decoded.
+    #[cold]
     pub fn instr(&self, address: u32) -> Option<Instr>
         ensures value { result ≡ instr_at self.now address }
         ensures ranges { IfSome result IsInRange }
     {
-        if address >= self.base && address % 4 == 0 {
-            let number = ((address - self.base) / 4) as usize;
-            if number < self.kept.len() {
-                return self.kept[number].instr();
-            }
-        }
         decode(self.word(address)?)
+    }
+
+    /// The instruction at an address, as it is kept.
+    #[inline(always)]
+    #[tactic(auto, using(crate::proofs::Reaching::kept_at))]
+    pub fn kept(&self, address: u32) -> Kept
+        ensures value { instr_in result ≡ instr_at self.now address }
+        ensures ranges { IfSome (instr_in result) IsInRange }
+    {
+        let offset = address.wrapping_sub(self.base);
+        let number = (offset / 4) as usize;
+        if offset % 4 == 0 && number < self.kept.len() {
+            return self.kept[number];
+        }
+        Kept::of(self.instr(address))
     }
 }

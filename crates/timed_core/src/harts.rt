@@ -4,9 +4,11 @@ ghost use Rattle.timed_core.specs.Cores.{line_number};
 
 mod execution;
 mod hits;
+mod instructions;
 mod posts;
 mod stretches;
 
+use crate::outcomes::Outcome;
 use mesi_cache::{Cache, HeldLine};
 use slack_base::{Config, CoreEnd, Counts, OutOfMemory, Trap, raised};
 use std::alloc::Global;
@@ -51,6 +53,7 @@ impl Model for Hart {
 }
 
 /// The number of the line of an address, in a memory that begins at `base`.
+#[inline(always)]
 fn line_number(base: u32, address: u32) -> u32
     ensures { result ≡ line_number base address }
 {
@@ -63,6 +66,7 @@ impl Hart {
     ghost use Rattle.slack_base.specs.Numbers.{numbers_of};
     ghost use Rattle.timed_core.specs.Accesses.{held_in};
     ghost use Rattle.timed_core.specs.Cores.{IsBy, first_core, is_running, with_register, completed, goes_on, gives, trapped};
+    ghost use Rattle.timed_core.specs.Outcomes.{completion};
 
     /// A hart before the first cycle.
     pub fn new(alloc: Global, number: u32, config: &Config, entry: u32) -> Result<Hart, OutOfMemory>
@@ -162,8 +166,18 @@ impl Hart {
         self.counts
     }
 
+    /// The word of a register.
+    #[inline(always)]
+    fn x(&self, n: u8) -> u32
+        requires { n < 32 }
+        ensures { result ≡ slice_index self.now.registers n }
+    {
+        self.registers[n as usize]
+    }
+
     /// Writes a register. x0 stays 0.
-    fn write(&mut self, rd: u32, value: u32)
+    #[inline(always)]
+    fn write(&mut self, rd: u8, value: u32)
         requires { rd < 32 }
         ensures { self.new ≡ record self.old { registers = with_register self.old.registers rd value } }
     {
@@ -173,39 +187,49 @@ impl Hart {
     }
 
     /// Completes an instruction.
-    fn complete(&mut self, pc: u32, cost: u32)
+    #[inline(always)]
+    fn complete(&mut self, pc: u32, cost: u32) -> Outcome
         requires { 1 ≤ cost }
-        ensures { self.new ≡ completed self.old self.old.registers pc cost }
+        ensures after { self.new ≡ completed self.old self.old.registers pc cost }
+        ensures outcome { result ≡ completion cost }
     {
         self.pc = pc;
         self.busy = cost - 1;
         self.counts.retired = raised(self.counts.retired);
+        Outcome::of_cost(cost)
     }
 
     /// Completes an instruction, and goes on to the next.
-    fn go_on(&mut self, cost: u32)
+    #[inline(always)]
+    fn go_on(&mut self, cost: u32) -> Outcome
         requires { 1 ≤ cost }
-        ensures { self.new ≡ goes_on cost self.old }
+        ensures after { self.new ≡ goes_on cost self.old }
+        ensures outcome { result ≡ completion cost }
     {
         let next = self.pc.wrapping_add(4);
-        self.complete(next, cost);
+        self.complete(next, cost)
     }
 
     /// Completes an instruction that writes a register, and goes on to the next.
-    fn give(&mut self, rd: u32, value: u32, cost: u32)
+    #[inline(always)]
+    fn give(&mut self, rd: u8, value: u32, cost: u32) -> Outcome
         requires register { rd < 32 }
         requires some { 1 ≤ cost }
-        ensures { self.new ≡ gives rd value cost self.old }
+        ensures after { self.new ≡ gives rd value cost self.old }
+        ensures outcome { result ≡ completion cost }
     {
         self.write(rd, value);
-        self.go_on(cost);
+        self.go_on(cost)
     }
 
     /// Ends the hart by a trap.
-    fn trap(&mut self, cycle: u64, trap: Trap)
+    #[cold]
+    fn trap(&mut self, cycle: u64, trap: Trap) -> Outcome
         requires { cycle ≤ TOP }
-        ensures { self.new ≡ trapped self.old cycle trap }
+        ensures after { self.new ≡ trapped self.old cycle trap }
+        ensures outcome { result ≡ Outcome.Rests }
     {
         self.ended = CoreEnd::Trapped { at: cycle, trap };
+        Outcome::Rests
     }
 }

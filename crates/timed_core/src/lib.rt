@@ -8,6 +8,7 @@ mod harts;
 mod kept;
 pub mod laws;
 mod marks;
+mod outcomes;
 pub mod timed_cores;
 
 pub use accesses::Access;

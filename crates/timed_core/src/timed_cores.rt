@@ -155,9 +155,9 @@ impl TimedCore {
     {
         let before = out.len();
         apply_due(&mut self.hart, &mut self.inbox, code.base(), cycle, out)?;
+        let stretch = self.hart.stretch(code, cycle, cycle + 1);
         let id = id_at(cycle, &self.hart, out.len() - before);
-        let ask = self.hart.step(code, id);
-        send(ask, out)
+        send(stretch.outcome.ask(id), out)
     }
 
     /// Ticks from a cycle on, one after another, with no new post: up to the cycle `until`, or up to the first in which
@@ -210,7 +210,8 @@ impl TimedCore {
             return Ok(from + 1);
         }
         let stretch = self.hart.stretch(code, from, until.min(due));
-        send(stretch.ask, out)?;
+        let id = id_at(stretch.next - 1, &self.hart, 0);
+        send(stretch.outcome.ask(id), out)?;
         Ok(stretch.next)
     }
 
@@ -256,8 +257,27 @@ impl TimedCore {
     }
 }
 
-/// Applies the posts that are due at a cycle, in the order of the inbox.
+/// Applies the posts that are due at a cycle, in the order of the inbox. Where none is, that takes one comparison.
+#[inline(always)]
 fn apply_due(
+    hart: &mut Hart,
+    inbox: &mut Inbox,
+    base: u32,
+    cycle: u64,
+    out: &mut AskList,
+) -> Result<(), OutOfMemory>
+    ensures hart { OnOk result (hart.new ≡ (applied_all base cycle 0 hart.old (filter (λ p. nat_le p.due cycle) inbox.old)).0) }
+    ensures inbox { OnOk result (inbox.new ≡ filter (λ p. nat_lt cycle p.due) inbox.old) }
+    ensures asks { OnOk result (out.new ≡ out.old ++ (applied_all base cycle 0 hart.old (filter (λ p. nat_le p.due cycle) inbox.old)).1) }
+{
+    if inbox.next_due() > cycle {
+        return Ok(());
+    }
+    apply_each(hart, inbox, base, cycle, out)
+}
+
+/// Applies the posts that are due at a cycle one after another.
+fn apply_each(
     hart: &mut Hart,
     inbox: &mut Inbox,
     base: u32,
@@ -278,6 +298,7 @@ fn apply_due(
 }
 
 /// The id of the next ask in a cycle, where so many were sent.
+#[inline(always)]
 fn id_at(cycle: u64, hart: &Hart, sent: usize) -> Id
     ensures { result ≡ id_at cycle hart.now sent }
 {
@@ -289,6 +310,7 @@ fn id_at(cycle: u64, hart: &Hart, sent: usize) -> Id
 }
 
 /// Appends the ask, if there is one.
+#[inline(always)]
 fn send(ask: Option<Ask>, out: &mut AskList) -> Result<(), OutOfMemory>
     ensures { OnOk result (out.new ≡ out.old ++ asks_of ask) }
 {

@@ -1,20 +1,25 @@
 //! What an access to memory does to a hart: it hits or misses its line, fails or ends the hart.
-ghost use Rattle.std.specs.Prelude.{◌≡◌, ◌≤◌, ◌<◌, ◌%◌, Some, IsSome, IsSomeAnd, IsTrue};
+ghost use Rattle.std.specs.Prelude.{◌≡◌, ◌≤◌, ◌<◌, ◌%◌, ℕ, Some, IfSome, IsTrue};
+ghost use Rattle.std.specs.Option.{option_map};
 ghost use Rattle.slack_base.specs.declared.bounds.TheConstants.{TOP};
-ghost use Rattle.mesi_cache.specs.Caches.{line_in};
+ghost use Rattle.mesi_cache.specs.Caches.{line_in, read_line, write_line};
 ghost use Rattle.mesi_cache.specs.Lines.{may_write};
-ghost use Rattle.timed_core.specs.Accesses.{is_aligned, hits, word_in_line, held_in, read_at, write_at, hit, missed, looked_up, failed, tried, accessed};
+ghost use Rattle.mesi_cache.specs.Places.{IsFoundIn};
+ghost use Rattle.timed_core.specs.Accesses.{is_aligned, hits, word_in_line, with_access, hit, missed, looked_up, failed, tried, accessed, held_in};
 ghost use Rattle.timed_core.specs.Cores.{line_number};
 ghost use Rattle.timed_core.specs.Effects.{WritesRegister};
+ghost use Rattle.timed_core.specs.Outcomes.{IsReady, DoesAt};
 
 use crate::accesses::Access;
 use crate::code::Code;
 use crate::harts::{Hart, line_number};
-use mesi_cache::{HeldLine, word_at};
+use crate::outcomes::Outcome;
+use mesi_cache::Found;
 use rv_exec::{amo_result, load_part, store_part};
-use slack_base::{Ask, Id, Trap, raised};
+use slack_base::{Trap, raised};
 
 /// Which of the four words of its line an address is in.
+#[inline(always)]
 fn word_in_line(address: u32) -> u32
     ensures value { result ≡ word_in_line address }
     ensures within { result < 4 }
@@ -23,162 +28,138 @@ fn word_in_line(address: u32) -> u32
 }
 
 impl Hart {
-    /// Accesses memory: alignment is checked first, then that the address is in memory. What is asked for has this
-    /// id.
+    /// Accesses memory: alignment is checked first, then that the address is in memory.
+    #[inline(always)]
     #[tactic(auto, unfolding(crate::specs::Accesses::accessed))]
-    pub fn access(
-        &mut self,
-        code: &Code,
-        access: Access,
-        address: u32,
-        cost: u32,
-        id: Id,
-    ) -> Option<Ask>
-        requires top { id.cycle ≤ TOP }
+    pub fn access(&mut self, code: &Code, access: Access, address: u32, cycle: u64) -> Outcome
+        requires top { cycle ≤ TOP }
+        requires ready { IsReady self.old }
         requires register { WritesRegister access }
-        requires some { 1 ≤ cost }
-        ensures after { self.new ≡ (accessed code.now access address cost id self.old).0 }
-        ensures ask { result ≡ (accessed code.now access address cost id self.old).1 }
+        ensures { DoesAt (λ id. accessed code.now access address 1 id self.old) cycle self.old self.new result }
     {
         if !access.is_aligned(address) {
-            self.trap(id.cycle, Trap::Misaligned { address });
-            return None;
+            return self.trap(cycle, Trap::Misaligned { address });
         }
         if !code.is_in_memory(address) {
-            self.trap(id.cycle, Trap::Outside { address });
-            return None;
+            return self.trap(cycle, Trap::Outside { address });
         }
-        self.try_access(access, code.base(), address, cost, id)
+        self.try_access(access, code.base(), address, cycle)
     }
 
     /// Looks the line of an access up, but for an SC whose address isn't the reservation, which fails.
+    #[inline(always)]
     #[tactic(auto, unfolding(crate::specs::Accesses::tried))]
-    fn try_access(
-        &mut self,
-        access: Access,
-        base: u32,
-        address: u32,
-        cost: u32,
-        id: Id,
-    ) -> Option<Ask>
+    fn try_access(&mut self, access: Access, base: u32, address: u32, cycle: u64) -> Outcome
+        requires ready { IsReady self.old }
         requires aligned { IsTrue (is_aligned access (address % 4)) }
         requires register { WritesRegister access }
-        requires some { 1 ≤ cost }
-        ensures after { self.new ≡ (tried access base address cost id self.old).0 }
-        ensures ask { result ≡ (tried access base address cost id self.old).1 }
+        ensures { DoesAt (λ id. tried access base address 1 id self.old) cycle self.old self.new result }
     {
-        if let Access::StoreConditional { rd, .. } = access
-            && self.reservation != Some(address)
-        {
-            self.fail(rd, cost);
-            return None;
+        let line = line_number(base, address);
+        match access {
+            Access::StoreConditional { rd, .. } => {
+                if self.reservation != Some(address) {
+                    return self.fail(rd);
+                }
+                self.look_up(access, line, address, cycle)
+            }
+            _ => self.look_up(access, line, address, cycle),
         }
-        let held = self.held(line_number(base, address));
-        self.look_up(held, access, base, address, cost, id)
     }
 
     /// An SC that fails gives 1, and loses the reservation.
-    fn fail(&mut self, rd: u32, cost: u32)
-        requires register { rd < 32 }
-        requires some { 1 ≤ cost }
-        ensures { self.new ≡ failed rd cost self.old }
+    fn fail(&mut self, rd: u8) -> Outcome
+        requires { rd < 32 }
+        ensures after { self.new ≡ failed rd 1 self.old }
+        ensures outcome { result ≡ Outcome.Ready }
     {
         self.reservation = None;
-        self.give(rd, 1, cost);
+        self.give(rd, 1, 1)
     }
 
-    /// Does an access to a line of which the cache holds this, or asks for the line.
-    #[tactic(auto, unfolding(crate::specs::Accesses::looked_up))]
-    fn look_up(
-        &mut self,
-        held: Option<HeldLine>,
-        access: Access,
-        base: u32,
-        address: u32,
-        cost: u32,
-        id: Id,
-    ) -> Option<Ask>
-        requires held { held ≡ held_in self.old.cache (line_number base address) }
+    /// Does an access to its line if the cache holds it so that the access hits, and else asks for the line.
+    #[inline(always)]
+    fn look_up(&mut self, access: Access, line: u32, address: u32, cycle: u64) -> Outcome
+        requires ready { IsReady self.old }
         requires aligned { IsTrue (is_aligned access (address % 4)) }
         requires register { WritesRegister access }
-        requires some { 1 ≤ cost }
-        ensures after { self.new ≡ (looked_up held access base address cost id self.old).0 }
-        ensures ask { result ≡ (looked_up held access base address cost id self.old).1 }
+        ensures { (base : ℕ) → line ≡ line_number base address → DoesAt (λ id. looked_up (held_in self.old.cache line) access base address 1 id self.old) cycle self.old self.new result }
     {
-        let line = line_number(base, address);
-        let Some(held) = held else {
-            return Some(self.miss(access, line, id));
+        let Some(found) = self.cache.find(line) else {
+            return self.miss(access, line);
         };
-        if !access.hits(held.held) {
-            return Some(self.miss(access, line, id));
+        if !access.hits(found.held) {
+            return self.miss(access, line);
         }
-        let old = word_at(&held.words, word_in_line(address));
-        self.hit(access, base, address, old, cost);
-        None
+        let old = self.cache.word(found, word_in_line(address));
+        self.hit(access, found, address, old)
     }
 
     /// Does an access to a line that it hits, where the word of the address is `old`.
+    #[inline(always)]
     #[tactic(auto, unfolding(crate::specs::Accesses::hit))]
-    fn hit(&mut self, access: Access, base: u32, address: u32, old: u32, cost: u32)
-        requires held { IsSomeAnd (line_in self.old.cache (line_number base address)) (λ l. IsTrue (hits access l.held)) }
+    fn hit(&mut self, access: Access, found: Found, address: u32, old: u32) -> Outcome
+        requires found { IsFoundIn self.old.cache found }
+        requires hits { IsTrue (hits access found.held) }
         requires aligned { IsTrue (is_aligned access (address % 4)) }
         requires register { WritesRegister access }
-        requires some { 1 ≤ cost }
-        ensures { self.new ≡ hit access base address old cost self.old }
+        ensures after { (base : ℕ) → found.line ≡ line_number base address → self.new ≡ hit access base address old 1 self.old }
+        ensures outcome { result ≡ Outcome.Ready }
     {
         match access {
             Access::Load { op, rd } => {
-                self.read_at(base, address);
-                self.give(rd, load_part(op, old, address % 4), cost);
+                self.read_at(found);
+                self.give(rd, load_part(op, old, address % 4), 1)
             }
             Access::Store { op, value } => {
-                self.write_at(base, address, store_part(op, old, address % 4, value));
-                self.go_on(cost);
+                self.write_at(found, address, store_part(op, old, address % 4, value));
+                self.go_on(1)
             }
             Access::LoadReserved { rd } => {
-                self.read_at(base, address);
+                self.read_at(found);
                 self.reservation = Some(address);
-                self.give(rd, old, cost);
+                self.give(rd, old, 1)
             }
             Access::StoreConditional { rd, value } => {
-                self.write_at(base, address, value);
+                self.write_at(found, address, value);
                 self.reservation = None;
-                self.give(rd, 0, cost);
+                self.give(rd, 0, 1)
             }
             Access::Amo { op, rd, operand } => {
-                self.write_at(base, address, amo_result(op, old, operand));
-                self.give(rd, old, cost);
+                self.write_at(found, address, amo_result(op, old, operand));
+                self.give(rd, old, 1)
             }
         }
     }
 
-    /// Reads the word of the address: its line becomes the most recent of its set.
-    fn read_at(&mut self, base: u32, address: u32)
-        requires { IsSome (line_in self.old.cache (line_number base address)) }
-        ensures { self.new ≡ read_at base address self.old }
+    /// Reads a word of the line that was found: the line becomes the most recent of its set.
+    #[inline(always)]
+    fn read_at(&mut self, found: Found)
+        requires { IsFoundIn self.old.cache found }
+        ensures { self.new ≡ with_access self.old (read_line self.old.cache found.line) }
     {
-        self.cache
-            .read(line_number(base, address), word_in_line(address));
+        self.cache.use_found(found);
         self.counts.accesses = raised(self.counts.accesses);
     }
 
-    /// Writes the word of the address: its line becomes Modified, and the most recent of its set.
-    fn write_at(&mut self, base: u32, address: u32, value: u32)
-        requires { IsSomeAnd (line_in self.old.cache (line_number base address)) (λ l. IsTrue (may_write l.held)) }
-        ensures { self.new ≡ write_at base address value self.old }
+    /// Writes the word of the address in the line that was found: the line becomes Modified, and the most recent of
+    /// its set.
+    #[inline(always)]
+    fn write_at(&mut self, found: Found, address: u32, value: u32)
+        requires found { IsFoundIn self.old.cache found }
+        requires writable { IsTrue (may_write found.held) }
+        ensures { self.new ≡ with_access self.old (write_line self.old.cache found.line (word_in_line address) value) }
     {
-        self.cache
-            .write(line_number(base, address), word_in_line(address), value);
+        self.cache.write_found(found, word_in_line(address), value);
         self.counts.accesses = raised(self.counts.accesses);
     }
 
     /// Waits for the line, which the access asks for.
-    fn miss(&mut self, access: Access, line: u32, id: Id) -> Ask
-        ensures after { self.new ≡ (missed access id line self.old).0 }
-        ensures ask { Some result ≡ (missed access id line self.old).1 }
+    fn miss(&mut self, access: Access, line: u32) -> Outcome
+        ensures { (cycle : ℕ) → DoesAt (λ id. missed access id line self.old) cycle self.old self.new result }
     {
         self.waiting = true;
         self.counts.misses = raised(self.counts.misses);
-        access.ask(id, line)
+        access.miss(line)
     }
 }

@@ -1,19 +1,20 @@
 //! Cycles of a hart in which no post is due: those in which it executes nothing are gone over in one step.
-ghost use Rattle.std.specs.Prelude.{◌≡◌, ◌+◌, ◌-◌, ◌<◌, ◌≤◌, [], IsSome};
+ghost use Rattle.std.specs.Prelude.{◌≡◌, ◌+◌, ◌-◌, ◌<◌, ◌≤◌, true, ℕ};
 ghost use Rattle.slack_base.specs.Growing.{capped};
 ghost use Rattle.slack_base.specs.declared.bounds.TheConstants.{TOP};
-ghost use Rattle.timed_core.specs.Ticks.{id_at};
-ghost use Rattle.timed_core.specs.Stretches.{IsStretch, IsLeap, IsReady, rest_of};
+ghost use Rattle.timed_core.specs.Outcomes.{IsReady, asks};
+ghost use Rattle.timed_core.specs.Stretches.{IsStretch, IsLeap, rest_of};
 
 use crate::code::Code;
 use crate::harts::Hart;
-use slack_base::{Ask, CoreEnd, Id, capped};
+use crate::outcomes::Outcome;
+use slack_base::{CoreEnd, capped};
 
-/// The end of a stretch: the cycle after it, and what was asked for in its last cycle.
+/// The end of a stretch: the cycle after it, and what its last cycle came to.
 #[derive(Clone, Copy)]
 pub struct Stretch {
     pub next: u64,
-    pub ask: Option<Ask>,
+    pub outcome: Outcome,
 }
 
 impl Hart {
@@ -33,6 +34,7 @@ impl Hart {
         requires { 0 < most }
         ensures within { result ≤ most }
         ensures leap { IsLeap result self.old self.new }
+        ensures number { self.new.number ≡ self.old.number }
         ensures ready { result ≡ 0 → IsReady self.new }
     {
         if !self.is_running() {
@@ -68,52 +70,65 @@ impl Hart {
     /// The cycles from one on, up to another, or to the first in which something is asked for. No post is due in them.
     pub fn stretch(&mut self, code: &Code, from: u64, until: u64) -> Stretch
         requires order { from < until }
-        requires top { until ≤ TOP }
+        requires top { until ≤ TOP + 1 }
         ensures next { (from < result.next) × (result.next ≤ until) }
-        ensures stretch { IsStretch code.now from self.old self.new result }
-        ensures stops { result.next < until → IsSome result.ask }
+        ensures stretch { (number : ℕ) → IsStretch code.now number from self.old self.new result }
+        ensures stops { result.next < until → asks result.outcome ≡ true }
     {
         let mut next = from;
         while next < until {
             let part = self.part(code, next, until);
-            if part.ask.is_some() {
+            if part.outcome.asks() {
                 return part;
             }
             next = part.next;
         }
-        Stretch { next, ask: None }
+        Stretch {
+            next,
+            outcome: Outcome::Rests,
+        }
     }
 
-    /// Some of the cycles from one on, before another: those in which nothing is executed, or the one in which an
+    /// Some of the cycles from one on, up to another: those in which nothing is executed, or else some in which an
     /// instruction is.
+    #[inline(always)]
     fn part(&mut self, code: &Code, from: u64, until: u64) -> Stretch
         requires order { from < until }
-        requires top { until ≤ TOP }
+        requires top { until ≤ TOP + 1 }
         ensures next { (from < result.next) × (result.next ≤ until) }
-        ensures stretch { IsStretch code.now from self.old self.new result }
+        ensures stretch { (number : ℕ) → IsStretch code.now number from self.old self.new result }
     {
         let gone = self.leap(until - from);
         if gone > 0 {
             return Stretch {
                 next: from + gone,
-                ask: None,
+                outcome: Outcome::Rests,
             };
         }
-        let ask = self.fetch(code, self.first_id(from));
-        Stretch {
-            next: from + 1,
-            ask,
-        }
+        self.run(code, from, until)
     }
 
-    /// The id of the first ask in a cycle.
-    fn first_id(&self, cycle: u64) -> Id
-        ensures { result ≡ id_at cycle self.now 0 }
+    /// The cycles from one on, up to another, in each of which an instruction is executed: up to the first after which
+    /// the hart isn't ready for another.
+    #[inline(always)]
+    fn run(&mut self, code: &Code, from: u64, until: u64) -> Stretch
+        requires order { from < until }
+        requires top { until ≤ TOP + 1 }
+        requires ready { IsReady self.old }
+        ensures next { (from < result.next) × (result.next ≤ until) }
+        ensures stretch { (number : ℕ) → IsStretch code.now number from self.old self.new result }
     {
-        Id {
-            cycle,
-            core: self.number,
-            number: 0,
+        let mut next = from;
+        while next < until {
+            let outcome = self.fetch(code, next);
+            next += 1;
+            if !outcome.is_ready() {
+                return Stretch { next, outcome };
+            }
+        }
+        Stretch {
+            next,
+            outcome: Outcome::Ready,
         }
     }
 }

@@ -1,4 +1,4 @@
-use Rattle.std.proofs.Common.{◌≡◌, ◌-◌, ◌≤◌, []}
+use Rattle.std.proofs.Common.{◌≡◌, ◌-◌, ◌≤◌, ℕ, []}
 use Rattle.timed_core.specs.Stretches.{stretch}
 use Rattle.timed_core.proofs.harts.Hart.stretch.Given as goal
 
@@ -7,7 +7,8 @@ abbrev pub invariant-loop-next : goal.invariant-loop-next
 invariant-loop-next l = record {
   begun : l.from ≤ l.next;
   within : l.next ≤ l.until;
-  silent : stretch l.code l.from (l.next - l.from) l.initial.self ≡ (l.self, []);
+  same : l.self.number ≡ l.initial.self.number;
+  silent : (number : ℕ) → stretch l.code number l.from (l.next - l.from) l.initial.self ≡ (l.self, []);
 }
 
 abbrev pub decreases-loop-next : goal.decreases-loop-next
