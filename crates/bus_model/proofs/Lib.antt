@@ -1,7 +1,9 @@
 pub mod ClosingLaws
 pub mod FirstBus
+pub mod Flagging
 pub mod Granting
 pub mod Ids
 pub mod Lawful
 pub mod Places
+pub mod Restoring
 pub mod Words

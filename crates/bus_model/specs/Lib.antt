@@ -2,6 +2,7 @@ pub mod Asks
 pub mod Channels
 pub mod Closing
 pub mod ClosingLaws
+pub mod Journals
 pub mod Kinds
 pub mod Laws
 pub mod Serving

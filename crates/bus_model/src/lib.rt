@@ -5,6 +5,7 @@ mod buses;
 pub mod channels;
 mod consoles;
 pub mod laws;
+mod lines;
 mod posts;
 mod settings;
 mod starting;
