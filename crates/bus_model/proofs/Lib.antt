@@ -4,6 +4,7 @@ pub mod Flagging
 pub mod Granting
 pub mod Ids
 pub mod Lawful
+pub mod Marking
 pub mod Places
 pub mod Restoring
 pub mod Words

@@ -31,3 +31,12 @@ pub record IsFlagged (flags : List Bool) (entries : List EntryView) (journal : L
   pub up : (place : ℕ) → get_or flags place false ≡ true → is_noted place journal ≡ true
   pub inside : All (λ note. note.place < length entries) journal
   pub few : length journal ≤ count_up flags
+
+-- the line of a place may change: the entries are as before, the journal leads back to where it led, with one note more
+-- at most, and the line stands in it where there is a mark; where there is none, nothing was noted
+pub record IsReady (place : ℕ) (marked : Bool) (before after : LinesValue) : Type 0 where
+  pub entries : after.entries ≡ before.entries
+  pub kept : restored after.entries after.journal ≡ restored before.entries before.journal
+  pub noted : marked ≡ true → is_noted place after.journal ≡ true
+  pub few : length after.journal ≤ length before.journal + 1
+  pub unmarked : marked ≡ false → after.journal ≡ before.journal

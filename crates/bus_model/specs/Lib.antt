@@ -5,6 +5,7 @@ pub mod ClosingLaws
 pub mod Journals
 pub mod Kinds
 pub mod Laws
+pub mod Noting
 pub mod Serving
 pub mod Settings
 pub mod Starting

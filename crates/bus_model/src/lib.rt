@@ -4,6 +4,7 @@
 mod buses;
 pub mod channels;
 mod consoles;
+mod counters;
 pub mod laws;
 mod lines;
 mod posts;

@@ -37,7 +37,7 @@ impl Lines {
     ghost use Rattle.slack_base.specs.Messages.{id_of};
     ghost use Rattle.status_map.specs.Entries.{AreShort};
     ghost use Rattle.status_map.specs.Table.{serve};
-    ghost use Rattle.bus_model.specs.Journals.{restored, is_noted};
+    ghost use Rattle.bus_model.specs.Journals.{restored, is_noted, IsReady};
 
     /// Lines with these entries, and nothing noted.
     pub(crate) fn new(alloc: Global, entries: Vec<Entry>) -> Result<Lines, OutOfMemory>
@@ -52,7 +52,7 @@ impl Lines {
     }
 
     /// Notes the entry of a line, where the line doesn't stand in the journal yet.
-    pub(crate) fn note(&mut self, place: usize) -> Result<(), OutOfMemory>
+    fn note(&mut self, place: usize) -> Result<(), OutOfMemory>
         requires { place < length self.old.entries }
         ensures entries { self.new.entries ≡ self.old.entries }
         ensures kept { restored self.new.entries self.new.journal ≡ restored self.old.entries self.old.journal }
@@ -66,6 +66,18 @@ impl Lines {
         let entry = self.entries[place];
         self.journal.push(Note { place, entry })?;
         self.flags[place] = true;
+        Ok(())
+    }
+
+    /// Makes a line ready to change: where there is a mark, it stands in the journal then.
+    pub(crate) fn prepare(&mut self, place: usize, marked: bool) -> Result<(), OutOfMemory>
+        requires { place < length self.old.entries }
+        ensures ready { OnOk result (IsReady place marked self.old self.new) }
+        ensures refused { OnErr result (self.new ≡ self.old) }
+    {
+        if marked {
+            self.note(place)?;
+        }
         Ok(())
     }
 
