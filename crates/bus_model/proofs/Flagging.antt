@@ -1,5 +1,5 @@
 -- The flags of the lines that stand in a journal.
-use Rattle.std.proofs.Common.{◌≡◌, ◌∙◌, ℕ, zero, suc, ◌+◌, ◌<◌, ◌≤◌, ◌==◌, ◌||◌, Bool, true, false, List, [], ◌∷◌, ◌++◌, length, get_or, Some, inl, inr, refl, sym, ap, subst, arith}
+use Rattle.std.proofs.Common.{◌≡◌, ◌∙◌, ℕ, zero, suc, ◌+◌, ◌<◌, ◌≤◌, ◌==◌, ◌||◌, Bool, true, false, List, [], ◌∷◌, ◌++◌, length, get_or, Some, inl, inr, refl, sym, ap, arith}
 use Rattle.std.specs.Prelude.{slice_set}
 use Rattle.std.specs.List.{All}
 use Rattle.std.proofs.lemmas.Bool.{cases_eq}
@@ -58,8 +58,8 @@ flagged-push flags entries journal note place s same within down =
       up = λ k h. elim (cases_eq k place) [
         | inl at_place ↦ is_noted-push k journal note ∙ or_right (is_noted k journal) (note.place == k) (itself note.place k (same ∙ sym at_place))
         | inr other ↦
-          is_noted-push k journal note
-          ∙ or_left (is_noted k journal) (note.place == k) (s.up k (sym (get_or-set_other flags place k true false other) ∙ h))
+            is_noted-push k journal note
+            ∙ or_left (is_noted k journal) (note.place == k) (s.up k (sym (get_or-set_other flags place k true false other) ∙ h))
       ];
       inside = All-push (λ (n : Note). n.place < length entries) journal note s.inside (omega arith);
       few = omega (arith, length_push journal note, count_up-raise flags place (omega (arith, s.each)) down, s.few);
@@ -82,8 +82,8 @@ flagged-pop flags entries journal note s =
       up = λ k h. elim (cases_eq k note.place) [
         | inl at_place ↦ absurd (down flags note.place k within at_place h)
         | inr other ↦
-          not_last note.place k (is_noted k journal) other
-          (sym (is_noted-push k journal note) ∙ s.up k (sym (get_or-set_other flags note.place k false false other) ∙ h))
+            not_last note.place k (is_noted k journal) other
+            (sym (is_noted-push k journal note) ∙ s.up k (sym (get_or-set_other flags note.place k false false other) ∙ h))
       ];
       inside = popped.0;
       few = omega (arith, length_push journal note, count_up-lower flags note.place, s.few);

@@ -1,5 +1,5 @@
 -- What is left of a journal as lines are noted, change and are put back.
-use Rattle.std.proofs.Common.{◌≡◌, ◌∙◌, ℕ, ◌+◌, ◌<◌, ◌≤◌, ◌==◌, ◌||◌, Bool, true, false, List, [], ◌∷◌, ◌++◌, length, get_or, inl, inr, refl, sym, ap, arith}
+use Rattle.std.proofs.Common.{◌≡◌, ◌∙◌, ℕ, ◌==◌, ◌||◌, Bool, true, false, List, [], ◌∷◌, ◌++◌, length, get_or, inl, inr, refl, sym, ap, arith}
 use Rattle.std.specs.Prelude.{slice_set}
 use Rattle.std.proofs.lemmas.Bool.{cases_eq}
 use Rattle.std.proofs.lemmas.Bool.Decides.{nat_tests}
@@ -35,9 +35,9 @@ restored-under entries (note ∷ journal) place x y =
     elim (cases_eq note.place place) [
       | inl same ↦ rw same (set-set changed place note.entry y ∙ restored-under entries journal place x y ∙ sym (set-set as_it_was place note.entry y))
       | inr other ↦
-        set_comm changed note.place place note.entry y other
-        ∙ ap (λ (es : List EntryView). slice_set es note.place note.entry) (restored-under entries journal place x y)
-        ∙ sym (set_comm as_it_was note.place place note.entry y other)
+          set_comm changed note.place place note.entry y other
+          ∙ ap (λ (es : List EntryView). slice_set es note.place note.entry) (restored-under entries journal place x y)
+          ∙ sym (set_comm as_it_was note.place place note.entry y other)
     ]
 
 noted_later : (note : Note) (place : ℕ) (later : Bool) → (note.place ≡ place → ⊥) → ((note.place == place) || later) ≡ true → later ≡ true
@@ -50,8 +50,8 @@ restored-change entries [] place x noted = absurd (cc)
 restored-change entries (note ∷ journal) place x noted = elim (cases_eq note.place place) [
   | inl same ↦ rw same (restored-under entries journal place x note.entry)
   | inr other ↦
-    ap (λ (es : List EntryView). slice_set es note.place note.entry)
-    (restored-change entries journal place x (noted_later note place (is_noted place journal) other noted))
+      ap (λ (es : List EntryView). slice_set es note.place note.entry)
+      (restored-change entries journal place x (noted_later note place (is_noted place journal) other noted))
 ]
 
 -- a line stands in a longer journal where it stands in the shorter one, or last

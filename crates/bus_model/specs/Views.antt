@@ -1,5 +1,5 @@
 -- What the code's buses and consoles are, now and at their marks.
-use Rattle.std.specs.Prelude.{ℕ, ◌+◌, ◌≡◌, ◌<◌, ◌≤◌, List, [], Option, IfSome, IfNone, length, take}
+use Rattle.std.specs.Prelude.{◌+◌, ◌≡◌, ◌<◌, ◌≤◌, List, [], IfSome, IfNone, length, take}
 use Rattle.std.specs.Option.{option_map}
 use Rattle.slack_base.specs.declared.bounds.TheConstants.{TOP}
 use Rattle.slack_base.specs.Marks.{Marked}

@@ -109,7 +109,8 @@ impl Bus {
         let place = (line / setting.buses) as usize;
         let mut out = PostBatch::new();
         self.lines.prepare(place, self.mark.is_some())?;
-        self.lines.serve(place, ask, grant, &setting.delays, &mut out);
+        self.lines
+            .serve(place, ask, grant, &setting.delays, &mut out);
         self.counters.free = capped(grant + setting.occupancy);
         self.counters.asks = raised(self.counters.asks);
         self.counters.retries = capped(self.counters.retries + retries_in(out.posts()));
@@ -140,8 +141,9 @@ impl Bus {
     pub(crate) fn keep(&mut self)
         ensures { self.new ≡ record { value = self.old.value; saved = None } }
     {
-        self.lines.forget();
-        self.mark = None;
+        if self.mark.take().is_some() {
+            self.lines.forget();
+        }
     }
 
     /// How many lines were noted since the mark.

@@ -1,4 +1,4 @@
-use Rattle.std.proofs.Common.{◌≡◌, ◌∙◌, ◌/◌, ◌<◌, length, sym, ap, subst, arith}
+use Rattle.std.proofs.Common.{◌∙◌, ◌<◌, sym, ap, subst, arith}
 use Rattle.slack_base.specs.Marks.{Marked}
 use Rattle.bus_model.specs.Channels.{BusValue, entry_of}
 use Rattle.bus_model.specs.Views.{bus_now}

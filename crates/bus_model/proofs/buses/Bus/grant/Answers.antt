@@ -80,12 +80,12 @@ parts c =
     let counted : c.retries_in.result ≡ count_by is_retry c.serve.new.out = c.retries_in.ensures ∙ ap (λ (ps : List Post). count_by is_retry ps) c.posts.ensures.posts in
     ap (λ (es : List EntryView). after c es) (entries c ∙ ap (λ (es : List EntryView). slice_set es (place_of c) (outcome c).entry) (ready c).entries)
     ∙ granted-parts b c.args.ask.now c.args.line (found c).0 c.max-grant.result
-      c.capped-self-inside.result c.raised-self-inside.result c.capped-self-inside-2.result (outcome c).entry c.serve.new.out
-      c.capped-self-inside.ensures
-      c.raised-self-inside.ensures
-      (c.capped-self-inside-2.ensures ∙ ap (λ n. capped (b.retries + n)) counted)
-      refl (posts c)
-      (c.max-grant.ensures ∙ ap (λ (i : Id). max i.cycle b.free) c.id.ensures)
+    c.capped-self-inside.result c.raised-self-inside.result c.capped-self-inside-2.result (outcome c).entry c.serve.new.out
+    c.capped-self-inside.ensures
+    c.raised-self-inside.ensures
+    (c.capped-self-inside-2.ensures ∙ ap (λ n. capped (b.retries + n)) counted)
+    refl (posts c)
+    (c.max-grant.ensures ∙ ap (λ (i : Id). max i.cycle b.free) c.id.ensures)
 
 pub returns-clause-bus : goal.returns-clause-bus
 returns-clause-bus c = ap (λ (p : BusValue × List Post). p.0) (parts c ∙ sym (served c))
@@ -110,10 +110,10 @@ invariant_of-self-2 c =
     record {
       now = subst (λ (p : BusValue × List Post). IsSoundBus p.0) (sym (parts c)) lawful.sound;
       saved = subst (λ (ls : LinesValue). IfSome inside.mark (λ m. IsSoundBus (bus_with (setting_value inside.setting) m (restored ls.entries ls.journal)))) (sym (lines c))
-        (sound-changed (place_of c) inside.lines c.prepare.new.self (outcome c).entry (setting_value inside.setting) inside.mark (ready c) c.self.invariant.saved);
+          (sound-changed (place_of c) inside.lines c.prepare.new.self (outcome c).entry (setting_value inside.setting) inside.mark (ready c) c.self.invariant.saved);
       few = subst (λ n. IfSome inside.mark (λ m. n < TOP → m.asks + length c.serve.new.self.journal ≤ n)) (sym c.raised-self-inside.ensures)
-        (subst (λ (js : List Note). IfSome inside.mark (λ m. raised inside.counters.asks < TOP → m.asks + length js ≤ raised inside.counters.asks)) (sym c.serve.ensures.journal)
-        (few-changed (place_of c) inside.counters.asks inside.lines c.prepare.new.self inside.mark (ready c) c.self.invariant.few));
+          (subst (λ (js : List Note). IfSome inside.mark (λ m. raised inside.counters.asks < TOP → m.asks + length js ≤ raised inside.counters.asks)) (sym c.serve.ensures.journal)
+          (few-changed (place_of c) inside.counters.asks inside.lines c.prepare.new.self inside.mark (ready c) c.self.invariant.few));
       unmarked = subst (λ (js : List Note). IfNone inside.mark (js ≡ [])) (sym c.serve.ensures.journal)
-        (unmarked-changed (place_of c) inside.lines c.prepare.new.self inside.mark (ready c) c.self.invariant.unmarked);
+          (unmarked-changed (place_of c) inside.lines c.prepare.new.self inside.mark (ready c) c.self.invariant.unmarked);
     }

@@ -1,7 +1,7 @@
 use Rattle.std.proofs.Common.{◌≡◌, ◌∙◌, refl, sym, ap, subst}
 use Rattle.slack_base.specs.Numbers.{numbers_of}
 use Rattle.bus_model.specs.declared.counters.Counters.{Counters}
-use Rattle.bus_model.specs.Channels.{BusValue, IsSoundBus}
+use Rattle.bus_model.specs.Channels.{IsSoundBus}
 use Rattle.bus_model.specs.Journals.{LinesValue}
 use Rattle.bus_model.specs.Settings.{setting_value}
 use Rattle.bus_model.specs.Starting.{first_bus}
