@@ -1,7 +1,10 @@
 pub mod ClosingLaws
 pub mod FirstBus
+pub mod Flagging
 pub mod Granting
 pub mod Ids
 pub mod Lawful
+pub mod Marking
 pub mod Places
+pub mod Restoring
 pub mod Words

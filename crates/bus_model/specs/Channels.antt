@@ -69,6 +69,10 @@ abbrev pub retries_of : ChannelValue → ℕ
 retries_of (AsBus b) = b.retries
 retries_of (AsConsole c) = 0
 
+abbrev pub entries_of : ChannelValue → List EntryView
+entries_of (AsBus b) = b.entries
+entries_of (AsConsole c) = []
+
 abbrev pub count_of : ChannelValue → ℕ
 count_of (AsBus b) = length b.entries
 count_of (AsConsole c) = 0

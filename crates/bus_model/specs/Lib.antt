@@ -2,8 +2,10 @@ pub mod Asks
 pub mod Channels
 pub mod Closing
 pub mod ClosingLaws
+pub mod Journals
 pub mod Kinds
 pub mod Laws
+pub mod Noting
 pub mod Serving
 pub mod Settings
 pub mod Starting

@@ -1,35 +1,37 @@
 //! A bus: when it is granted, and the status map of its lines.
-ghost use Rattle.std.specs.Prelude.{◌≡◌, ◌+◌, ◌/◌, ◌<◌, ◌≤◌, ◌++◌, [], length, None, Some, IfOk, OnOk};
+ghost use Rattle.std.specs.Prelude.{◌≡◌, ◌+◌, ◌/◌, ◌<◌, ◌≤◌, ◌++◌, [], length, None, Some, IfNone, IfOk, IfSome, IsSome, OnErr, OnOk};
 
+use crate::counters::Counters;
+use crate::lines::Lines;
 use crate::posts::{retries_in, send_all};
 use crate::settings::Setting;
 use crate::starting::first_entries;
 use slack_base::{Ask, Config, HighestId, Id, Image, OutOfMemory, PostList, capped, raised};
-use status_map::{Entry, EntryView, PostBatch};
+use status_map::{EntryView, PostBatch};
 use std::alloc::Global;
 use std::marker::Model;
 
-/// A bus of a machine.
+/// A bus of a machine, which may be marked. A mark keeps what the bus counted, and from then on the entry of each line
+/// is noted before it first changes.
 #[derive(Debug, Drop)]
 pub(crate) struct Bus {
     setting: Setting,
-    free: u64,
-    asks: u64,
-    retries: u64,
-    entries: Vec<Entry>,
-    highest: HighestId,
+    counters: Counters,
+    lines: Lines,
+    mark: Option<Counters>,
 }
 
 impl Model for Bus {
-    ghost use Rattle.bus_model.specs.Channels.{BusValue, IsSoundBus};
+    ghost use Rattle.slack_base.specs.Marks.{Marked};
+    ghost use Rattle.bus_model.specs.Channels.{BusValue};
 
-    ghost Value = { BusValue };
+    ghost Value = { Marked BusValue };
 
-    ghost use Rattle.bus_model.specs.Views.{bus_of};
+    ghost use Rattle.bus_model.specs.Views.{bus_of, IsSoundInside};
 
     ghost view = { bus_of };
 
-    ghost invariant = { λ b. IsSoundBus (bus_of b) };
+    ghost invariant = { IsSoundInside };
 }
 
 impl Bus {
@@ -37,8 +39,9 @@ impl Bus {
     ghost use Rattle.slack_base.specs.Images.{Fits};
     ghost use Rattle.slack_base.specs.Messages.{line_of};
     ghost use Rattle.slack_base.specs.Numbers.{numbers_of};
-    ghost use Rattle.bus_model.specs.Channels.{entry_of, found_on, IsSoundBus};
+    ghost use Rattle.bus_model.specs.Channels.{AsBus, entry_of, found_on, IsSoundBus};
     ghost use Rattle.bus_model.specs.Asks.{IsAskOf, IsLineOf};
+    ghost use Rattle.bus_model.specs.Noting.{IsNotedSince};
     ghost use Rattle.bus_model.specs.Starting.{first_bus};
     ghost use Rattle.bus_model.specs.Serving.{bus_served, on_line};
 
@@ -51,46 +54,32 @@ impl Bus {
     ) -> Result<Bus, OutOfMemory>
         requires bus { index < config.now.buses }
         requires image { Fits config.now.base config.now.memory image.now }
-        ensures value { IfOk result (λ bus. bus ≡ first_bus (numbers_of config.now) image.now index) }
-        ensures sound { IfOk result (λ bus. IsSoundBus bus) }
+        ensures value { IfOk result (λ bus. bus.value ≡ first_bus (numbers_of config.now) image.now index) }
+        ensures saved { IfOk result (λ bus. bus.saved ≡ None) }
+        ensures sound { IfOk result (λ bus. IsSoundBus bus.value) }
     {
         let entries = first_entries(alloc, index, config, image)?;
+        let lines = Lines::new(alloc, entries)?;
         Ok(Bus {
             setting: Setting::of(config, index),
-            free: 0,
-            asks: 0,
-            retries: 0,
-            entries,
-            highest: HighestId::none(),
-        })
-    }
-
-    /// An equal bus.
-    pub(crate) fn copy(&self) -> Result<Bus, OutOfMemory>
-        ensures { IfOk result (λ bus. bus ≡ self.now) }
-    {
-        let entries = Vec::from_slice(*self.entries.allocator(), self.entries.as_slice())?;
-        Ok(Bus {
-            setting: self.setting,
-            free: self.free,
-            asks: self.asks,
-            retries: self.retries,
-            entries,
-            highest: self.highest,
+            counters: Counters::new(),
+            lines,
+            mark: None,
         })
     }
 
     /// Serves an ask. The posts are appended.
     #[tactic(auto, unfolding(crate::specs::Serving::bus_served))]
     pub(crate) fn serve(&mut self, ask: &Ask, out: &mut PostList) -> Result<(), OutOfMemory>
-        requires { IsAskOf self.old.setting ask.now }
-        ensures bus { OnOk result (self.new ≡ (bus_served self.old ask.now).0) }
-        ensures posts { OnOk result (out.new ≡ out.old ++ (bus_served self.old ask.now).1) }
+        requires { IsAskOf self.old.value.setting ask.now }
+        ensures bus { OnOk result (self.new.value ≡ (bus_served self.old.value ask.now).0) }
+        ensures saved { self.new.saved ≡ self.old.saved }
+        ensures posts { OnOk result (out.new ≡ out.old ++ (bus_served self.old.value ask.now).1) }
     {
-        self.note(ask.id());
+        self.note_id(ask.id());
         match ask.line() {
             Some(line) => {
-                let posts = self.grant(ask, line);
+                let posts = self.grant(ask, line)?;
                 send_all(posts.posts(), out)
             }
             None => Ok(()),
@@ -98,96 +87,137 @@ impl Bus {
     }
 
     /// The id of an ask counts for the greatest one.
-    fn note(&mut self, id: Id)
-        ensures { self.new ≡ record self.old { highest = Some (later_of self.old.highest id) } }
+    fn note_id(&mut self, id: Id)
+        ensures value { self.new.value ≡ record self.old.value { highest = Some (later_of self.old.value.highest id) } }
+        ensures saved { self.new.saved ≡ self.old.saved }
     {
-        self.highest.note(id);
+        self.counters.highest.note(id);
     }
 
-    /// Grants the bus to an ask for a line of it, and answers the posts.
-    fn grant(&mut self, ask: &Ask, line: u32) -> PostBatch
-        requires ask { IsAskOf self.old.setting ask.now }
+    /// Grants the bus to an ask for a line of it, and answers the posts. Where a marked bus gets no memory for a note,
+    /// it is as before.
+    fn grant(&mut self, ask: &Ask, line: u32) -> Result<PostBatch, OutOfMemory>
+        requires ask { IsAskOf self.old.value.setting ask.now }
         requires line { line_of ask.now ≡ Some line }
-        ensures bus { self.new ≡ (on_line self.old ask.now (Some line)).0 }
-        ensures posts { result ≡ (on_line self.old ask.now (Some line)).1 }
+        ensures bus { OnOk result (self.new.value ≡ (on_line self.old.value ask.now (Some line)).0) }
+        ensures saved { self.new.saved ≡ self.old.saved }
+        ensures posts { IfOk result (λ posts. posts ≡ (on_line self.old.value ask.now (Some line)).1) }
+        ensures refused { OnErr result (self.new ≡ self.old) }
     {
         let setting = self.setting;
-        let grant = ask.id().cycle.max(self.free);
+        let grant = ask.id().cycle.max(self.counters.free);
         let place = (line / setting.buses) as usize;
         let mut out = PostBatch::new();
-        let entry = &mut self.entries[place];
-        entry.serve(ask, grant, &setting.delays, &mut out);
-        self.free = capped(grant + setting.occupancy);
-        self.asks = raised(self.asks);
-        self.retries = capped(self.retries + retries_in(out.posts()));
-        out
+        self.lines.prepare(place, self.mark.is_some())?;
+        self.lines
+            .serve(place, ask, grant, &setting.delays, &mut out);
+        self.counters.free = capped(grant + setting.occupancy);
+        self.counters.asks = raised(self.counters.asks);
+        self.counters.retries = capped(self.counters.retries + retries_in(out.posts()));
+        Ok(out)
+    }
+
+    /// Marks the bus as it stands. An older mark is replaced.
+    pub(crate) fn mark(&mut self)
+        ensures { self.new ≡ record { value = self.old.value; saved = Some self.old.value } }
+    {
+        self.lines.forget();
+        self.mark = Some(self.counters);
+    }
+
+    /// The bus is again as it was at its mark, and isn't marked any more.
+    pub(crate) fn undo(&mut self)
+        ensures marked { IfSome self.old.saved (λ v. self.new.value ≡ v) }
+        ensures unmarked { IfNone self.old.saved (self.new.value ≡ self.old.value) }
+        ensures saved { self.new.saved ≡ None }
+    {
+        if let Some(counters) = self.mark.take() {
+            self.counters = counters;
+            self.lines.put_back();
+        }
+    }
+
+    /// The bus stays as it is, and isn't marked any more.
+    pub(crate) fn keep(&mut self)
+        ensures { self.new ≡ record { value = self.old.value; saved = None } }
+    {
+        if self.mark.take().is_some() {
+            self.lines.forget();
+        }
+    }
+
+    /// How many lines were noted since the mark.
+    pub(crate) fn noted(&self) -> u64
+        ensures { IfSome self.now.saved (λ saved. IsNotedSince (AsBus saved) (AsBus self.now.value) result) }
+    {
+        self.lines.noted()
     }
 
     /// The greatest id that the bus served since it was closed.
     pub(crate) fn highest(&self) -> HighestId
-        ensures { result ≡ self.now.highest }
+        ensures { result ≡ self.now.value.highest }
     {
-        self.highest
+        self.counters.highest
     }
 
     /// Forgets the greatest id.
     pub(crate) fn close(&mut self)
-        ensures { self.new ≡ record self.old { highest = None } }
+        ensures { self.new ≡ record { value = record self.old.value { highest = None }; saved = self.old.saved } }
     {
-        self.highest.reset();
+        self.counters.highest.reset();
     }
 
     /// The entry of a line of the bus.
     pub(crate) fn entry(&self, line: u32) -> EntryView
-        requires { IsLineOf self.now.setting line }
-        ensures { entry_of self.now line ≡ Some result }
+        requires { IsLineOf self.now.value.setting line }
+        ensures { entry_of self.now.value line ≡ Some result }
     {
         let place = (line / self.setting.buses) as usize;
-        self.entries[place].view()
+        self.lines.entry(place)
     }
 
     /// The entry of a line, where the line is one of the bus.
     pub(crate) fn find_entry(&self, line: u32) -> Option<EntryView>
-        ensures { result ≡ found_on self.now line }
+        ensures { result ≡ found_on self.now.value line }
     {
         if line % self.setting.buses != self.setting.number {
             return None;
         }
         let place = (line / self.setting.buses) as usize;
-        self.entries.get(place).map(|entry| entry.view())
+        self.lines.find(place)
     }
 
     /// The bus's number.
     pub(crate) fn number(&self) -> u32
-        ensures { result ≡ self.now.setting.number }
+        ensures { result ≡ self.now.value.setting.number }
     {
         self.setting.number
     }
 
     /// The cycle from which the bus is free.
     pub(crate) fn free(&self) -> u64
-        ensures { result ≡ self.now.free }
+        ensures { result ≡ self.now.value.free }
     {
-        self.free
+        self.counters.free
     }
 
     /// How many asks the bus has served.
     pub(crate) fn asks(&self) -> u64
-        ensures { result ≡ self.now.asks }
+        ensures { result ≡ self.now.value.asks }
     {
-        self.asks
+        self.counters.asks
     }
 
     /// How many retries the bus has sent.
     pub(crate) fn retries(&self) -> u64
-        ensures { result ≡ self.now.retries }
+        ensures { result ≡ self.now.value.retries }
     {
-        self.retries
+        self.counters.retries
     }
 
     /// How many lines the bus has.
     pub(crate) fn lines(&self) -> u32
-        ensures { result ≡ length self.now.entries }
+        ensures { result ≡ length self.now.value.entries }
     {
         self.setting.lines / self.setting.buses
     }

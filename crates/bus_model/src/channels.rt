@@ -1,5 +1,5 @@
 //! A channel: a bus or the console.
-ghost use Rattle.std.specs.Prelude.{◌≡◌, ◌+◌, ◌<◌, ◌≤◌, ◌++◌, [], None, Some, IfNone, IfOk, IfSome, OnErr, OnOk};
+ghost use Rattle.std.specs.Prelude.{◌≡◌, ◌+◌, ◌<◌, ◌≤◌, ◌++◌, [], None, Some, IfNone, IfOk, IfSome, IsSome, OnErr, OnOk};
 ghost use Rattle.bus_model.specs.Asks.{channel_of};
 
 use crate::buses::Bus;
@@ -9,12 +9,12 @@ use status_map::EntryView;
 use std::alloc::Global;
 use std::marker::Model;
 
-/// A channel that asks go to, one after another, and that may be marked, to come back to it as it was there. A contract
-/// sees its value, and its value at the mark where there is one.
+/// A channel that asks go to, one after another, and that may be marked, to come back to it as it was there. A mark
+/// copies no line and no byte: each entry is noted before it first changes. A contract sees the channel's value, and its
+/// value at the mark where there is one.
 #[derive(Debug, Drop)]
 pub struct Channel {
     kind: Kind,
-    saved: Option<Kind>,
 }
 
 #[derive(Debug, Drop)]
@@ -31,19 +31,7 @@ impl Model for Channel {
 
     ghost use Rattle.bus_model.specs.Kinds.{saved_of, value_of};
 
-    ghost view = { λ c. record { value = value_of c.kind; saved = saved_of c.saved } };
-}
-
-impl Kind {
-    /// An equal channel.
-    fn copy(&self) -> Result<Kind, OutOfMemory>
-        ensures { IfOk result (λ copied. copied ≡ self.now) }
-    {
-        match self {
-            Kind::Bus(bus) => Ok(Kind::Bus(bus.copy()?)),
-            Kind::Console(console) => Ok(Kind::Console(console.copy()?)),
-        }
-    }
+    ghost view = { λ c. record { value = value_of c.kind; saved = saved_of c.kind } };
 }
 
 /// The number of the channel that an ask is of, in a machine with so many buses: the lines go round the buses, and a
@@ -64,6 +52,7 @@ impl Channel {
     ghost use Rattle.bus_model.specs.Channels.{AsBus, AsConsole, bus_setting, highest_of, entry_at, found_entry, number_of, free_of, asks_of, retries_of, count_of, bytes_of, IsSound};
     ghost use Rattle.bus_model.specs.Asks.{MayServe, HasLine};
     ghost use Rattle.bus_model.specs.Closing.{clash, closed};
+    ghost use Rattle.bus_model.specs.Noting.{IsNotedSince};
     ghost use Rattle.bus_model.specs.Settings.{setting_of};
     ghost use Rattle.bus_model.specs.Starting.{first_bus};
     ghost use Rattle.bus_model.specs.Serving.{served};
@@ -85,7 +74,6 @@ impl Channel {
         let bus = Bus::new(alloc, index, config, image)?;
         Ok(Channel {
             kind: Kind::Bus(bus),
-            saved: None,
         })
     }
 
@@ -95,7 +83,6 @@ impl Channel {
     {
         Channel {
             kind: Kind::Console(Console::new(alloc)),
-            saved: None,
         }
     }
 
@@ -149,8 +136,10 @@ impl Channel {
         ensures marked { OnOk result (self.new ≡ record { value = self.old.value; saved = Some self.old.value }) }
         ensures refused { OnErr result (self.new ≡ self.old) }
     {
-        let copied = self.kind.copy()?;
-        self.saved = Some(copied);
+        match &mut self.kind {
+            Kind::Bus(bus) => bus.mark(),
+            Kind::Console(console) => console.mark(),
+        }
         Ok(())
     }
 
@@ -160,8 +149,9 @@ impl Channel {
         ensures unmarked { IfNone self.old.saved (self.new.value ≡ self.old.value) }
         ensures saved { self.new.saved ≡ None }
     {
-        if let Some(saved) = self.saved.take() {
-            self.kind = saved;
+        match &mut self.kind {
+            Kind::Bus(bus) => bus.undo(),
+            Kind::Console(console) => console.undo(),
         }
     }
 
@@ -169,7 +159,21 @@ impl Channel {
     pub fn keep(&mut self)
         ensures { self.new ≡ record { value = self.old.value; saved = None } }
     {
-        self.saved = None;
+        match &mut self.kind {
+            Kind::Bus(bus) => bus.keep(),
+            Kind::Console(console) => console.keep(),
+        }
+    }
+
+    /// How many lines have been noted since the mark: each before its entry first changed. The console notes none.
+    pub fn noted(&self) -> u64
+        requires { IsSome self.now.saved }
+        ensures { IfSome self.now.saved (λ saved. IsNotedSince saved self.now.value result) }
+    {
+        match &self.kind {
+            Kind::Bus(bus) => bus.noted(),
+            Kind::Console(_) => 0,
+        }
     }
 
     /// The entry of a line of the bus.

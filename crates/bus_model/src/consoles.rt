@@ -1,23 +1,37 @@
 //! The console: the bytes that were put on it.
-ghost use Rattle.std.specs.Prelude.{◌≡◌, [], None, IfOk, OnOk};
+ghost use Rattle.std.specs.Prelude.{◌≡◌, [], None, Some, IfNone, IfSome, OnOk};
 
 use slack_base::{Ask, HighestId, OutOfMemory};
 use std::alloc::Global;
 use std::marker::Model;
 
-/// The console of a machine.
+/// The console of a machine, which may be marked. Since bytes only come behind those that are there, a mark keeps how
+/// many there were.
 #[derive(Debug, Drop)]
 pub(crate) struct Console {
     bytes: Vec<u8>,
     highest: HighestId,
+    mark: Option<ConsoleMark>,
+}
+
+/// How many bytes the console had at its mark, and the greatest id that it had served.
+#[derive(Clone, Copy, Debug)]
+struct ConsoleMark {
+    count: usize,
+    highest: HighestId,
 }
 
 impl Model for Console {
+    ghost use Rattle.slack_base.specs.Marks.{Marked};
     ghost use Rattle.bus_model.specs.Channels.{ConsoleValue};
 
-    ghost Value = { ConsoleValue };
+    ghost Value = { Marked ConsoleValue };
 
-    ghost view = { λ c. record { bytes = c.bytes.items; highest = c.highest } };
+    ghost use Rattle.bus_model.specs.Views.{console_of, HadBytes};
+
+    ghost view = { console_of };
+
+    ghost invariant = { HadBytes };
 }
 
 impl Console {
@@ -25,28 +39,19 @@ impl Console {
 
     /// The console with no bytes. It takes no memory.
     pub(crate) fn new(alloc: Global) -> Console
-        ensures { result ≡ record { bytes = []; highest = None } }
+        ensures { result ≡ record { value = record { bytes = []; highest = None }; saved = None } }
     {
         Console {
             bytes: Vec::new(alloc),
             highest: HighestId::none(),
+            mark: None,
         }
-    }
-
-    /// An equal console.
-    pub(crate) fn copy(&self) -> Result<Console, OutOfMemory>
-        ensures { IfOk result (λ console. console ≡ self.now) }
-    {
-        let bytes = Vec::from_slice(*self.bytes.allocator(), self.bytes.as_slice())?;
-        Ok(Console {
-            bytes,
-            highest: self.highest,
-        })
     }
 
     /// Serves an ask: appends the byte of a Put.
     pub(crate) fn serve(&mut self, ask: &Ask) -> Result<(), OutOfMemory>
-        ensures { OnOk result (self.new ≡ console_served self.old ask.now) }
+        ensures console { OnOk result (self.new.value ≡ console_served self.old.value ask.now) }
+        ensures saved { self.new.saved ≡ self.old.saved }
     {
         if let Ask::Put { byte, .. } = *ask {
             self.bytes.push(byte)?;
@@ -55,23 +60,52 @@ impl Console {
         Ok(())
     }
 
+    /// Marks the console as it stands. An older mark is replaced.
+    pub(crate) fn mark(&mut self)
+        ensures { self.new ≡ record { value = self.old.value; saved = Some self.old.value } }
+    {
+        self.mark = Some(ConsoleMark {
+            count: self.bytes.len(),
+            highest: self.highest,
+        });
+    }
+
+    /// The console is again as it was at its mark, and isn't marked any more.
+    pub(crate) fn undo(&mut self)
+        ensures marked { IfSome self.old.saved (λ v. self.new.value ≡ v) }
+        ensures unmarked { IfNone self.old.saved (self.new.value ≡ self.old.value) }
+        ensures saved { self.new.saved ≡ None }
+    {
+        if let Some(ConsoleMark { count, highest }) = self.mark.take() {
+            self.bytes.truncate(count);
+            self.highest = highest;
+        }
+    }
+
+    /// The console stays as it is, and isn't marked any more.
+    pub(crate) fn keep(&mut self)
+        ensures { self.new ≡ record { value = self.old.value; saved = None } }
+    {
+        self.mark = None;
+    }
+
     /// The bytes in the order in which they came.
     pub(crate) fn bytes(&self) -> &[u8]
-        ensures { result.now ≡ self.now.bytes }
+        ensures { result.now ≡ self.now.value.bytes }
     {
         self.bytes.as_slice()
     }
 
     /// The greatest id that the console served since it was closed.
     pub(crate) fn highest(&self) -> HighestId
-        ensures { result ≡ self.now.highest }
+        ensures { result ≡ self.now.value.highest }
     {
         self.highest
     }
 
     /// Forgets the greatest id.
     pub(crate) fn close(&mut self)
-        ensures { self.new ≡ record self.old { highest = None } }
+        ensures { self.new ≡ record { value = record self.old.value { highest = None }; saved = self.old.saved } }
     {
         self.highest.reset();
     }

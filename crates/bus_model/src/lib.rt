@@ -4,7 +4,9 @@
 mod buses;
 pub mod channels;
 mod consoles;
+mod counters;
 pub mod laws;
+mod lines;
 mod posts;
 mod settings;
 mod starting;

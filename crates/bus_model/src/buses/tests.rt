@@ -27,9 +27,9 @@ fn bus_after(
     let segments = SegmentList::new(alloc);
     let image = Image { entry: 0, segments };
     let mut bus = Bus::new(alloc, 0, config, &image)?;
-    bus.free = free.min(TOP);
-    bus.asks = asks.min(TOP);
-    bus.retries = retries.min(TOP);
+    bus.counters.free = free.min(TOP);
+    bus.counters.asks = asks.min(TOP);
+    bus.counters.retries = retries.min(TOP);
     Ok(bus)
 }
 

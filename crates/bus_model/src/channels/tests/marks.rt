@@ -1,12 +1,13 @@
 //! A channel is marked, and comes back to its mark or stays as it is.
 
-ghost use Rattle.std.specs.Prelude.{◌≡◌, Some, IfOk};
+ghost use Rattle.std.specs.Prelude.{◌≡◌, ◌<◌, Some, IfOk};
 ghost use Rattle.slack_base.specs.Bounds.{settled};
+ghost use Rattle.slack_base.specs.Images.{Fits};
 ghost use Rattle.slack_base.specs.Numbers.{numbers_of};
 ghost use Rattle.bus_model.specs.Channels.{bus_setting};
 ghost use Rattle.bus_model.specs.Settings.{setting_of};
 
-use super::exchanges::{GIVEN_BACK, TAKEN};
+use super::exchanges::{Exchange, GIVEN_BACK, NEIGHBOURS, PASSING, SHARING, STORES, TAKEN};
 use super::*;
 
 /// The bus of two cores once core 0 took line 256, marked there.
@@ -42,8 +43,11 @@ fn a_bus_comes_back(rt: HostRuntime) -> Result<(), Fail> {
     let config = Config::checked(TWO_CORES).expect(&rt, "two cores");
     let mut bus = marked_bus(rt.alloc(), &config)?;
     let mut out = PostList::new(rt.alloc());
+    assert_eq!(rt; bus.noted(), 0);
     assert!(rt; all_send(&mut bus, 0, &config, &GIVEN_BACK, &mut out)?);
     assert_eq!(rt; (bus.asks(), bus.retries(), bus.free()), (4, 1, 19));
+    // Three asks for two lines.
+    assert_eq!(rt; bus.noted(), 2);
     bus.undo();
     assert_eq!(rt; bus.find_entry(256), Some(TAKEN_LINE));
     assert_eq!(rt; bus.find_entry(257), Some(idle(ZEROS)));
@@ -64,6 +68,8 @@ fn a_bus_goes_on(rt: HostRuntime) -> Result<(), Fail> {
     assert_eq!(rt; bus.find_entry(256), Some(LINE_BACK));
     assert_eq!(rt; bus.find_entry(257), Some(owned(0, 24)));
     assert_eq!(rt; (bus.asks(), bus.retries(), bus.free()), (4, 1, 19));
+    bus.mark()?;
+    assert_eq!(rt; bus.noted(), 0);
     Ok(())
 }
 
@@ -75,7 +81,10 @@ fn a_later_mark(rt: HostRuntime) -> Result<(), Fail> {
     let mut out = PostList::new(rt.alloc());
     assert!(rt; all_send(&mut bus, 0, &config, &GIVEN_BACK, &mut out)?);
     bus.mark()?;
+    assert_eq!(rt; bus.noted(), 0);
     assert!(rt; serve_on(&mut bus, 0, &config, &read(30), &mut out)?);
+    assert!(rt; serve_on(&mut bus, 0, &config, &read(50), &mut out)?);
+    assert_eq!(rt; bus.noted(), 1);
     bus.undo();
     assert_eq!(rt; bus.find_entry(256), Some(LINE_BACK));
     assert_eq!(rt; (bus.asks(), bus.retries(), bus.free()), (4, 1, 19));
@@ -91,9 +100,72 @@ fn a_console_comes_back(rt: HostRuntime) -> Result<(), Fail> {
     console.mark()?;
     console.serve(&put(7), &mut out)?;
     assert_eq!(rt; console.console_bytes(), b"AA".as_slice());
+    assert_eq!(rt; console.noted(), 0);
     console.undo();
     assert_eq!(rt; console.console_bytes(), b"A".as_slice());
     assert_eq!(rt; console.clash(&put(6)), None);
     assert_eq!(rt; console.clash(&put(4)), Some(put(5).id()));
+    Ok(())
+}
+
+/// Whether two buses of a memory of 512 lines have the same entries and counts and have served the same greatest id.
+fn are_same(bus: &Channel, other: &Channel) -> bool {
+    for line in 0..512 {
+        if bus.find_entry(line) != other.find_entry(line) {
+            return false;
+        }
+    }
+    bus.highest() == other.highest()
+        && (bus.free(), bus.asks(), bus.retries()) == (other.free(), other.asks(), other.retries())
+}
+
+/// Whether a bus that is marked after so many asks, and taken back after the rest of them, is what these alone make of
+/// a bus, and makes of the rest what it made of them before.
+fn comes_back(
+    alloc: Global,
+    index: u32,
+    config: &Config,
+    image: &Image,
+    lines: &[Exchange],
+    count: usize,
+) -> Result<bool, OutOfMemory>
+    requires bus { index < config.now.buses }
+    requires image { Fits config.now.base config.now.memory image.now }
+{
+    let (some, rest) = lines.split_at(count.min(lines.len()));
+    let mut bus = Channel::bus(alloc, index, config, image)?;
+    let mut rebuilt = Channel::bus(alloc, index, config, image)?;
+    let mut out = PostList::new(alloc);
+    let begun = all_send(&mut bus, index, config, some, &mut out)?;
+    bus.mark()?;
+    let first = all_send(&mut bus, index, config, rest, &mut out)?;
+    bus.undo();
+    let built = all_send(&mut rebuilt, index, config, some, &mut out)?;
+    let same = are_same(&bus, &rebuilt);
+    let again = all_send(&mut bus, index, config, rest, &mut out)?;
+    Ok(begun && first && built && same && again)
+}
+
+/// Wherever it is marked among some asks.
+#[test]
+fn a_bus_is_as_it_was(rt: HostRuntime) -> Result<(), Fail> {
+    let config = Config::checked(TWO_CORES).expect(&rt, "two cores");
+    let image = image(rt.alloc())?;
+    for count in 0..=8 {
+        assert!(rt; comes_back(rt.alloc(), 0, &config, &image, &STORES, count)?);
+        assert!(rt; comes_back(rt.alloc(), 0, &config, &image, &PASSING, count)?);
+        assert!(rt; comes_back(rt.alloc(), 0, &config, &image, &SHARING, count)?);
+    }
+    Ok(())
+}
+
+/// The same on one of four buses.
+#[test]
+fn one_of_four_is_as_it_was(rt: HostRuntime) -> Result<(), Fail> {
+    let config = Config::checked(FOUR_BUSES).expect(&rt, "four buses");
+    let image = image(rt.alloc())?;
+    for count in 0..=2 {
+        assert!(rt; comes_back(rt.alloc(), 1, &config, &image, &NEIGHBOURS, count)?);
+    }
     Ok(())
 }
