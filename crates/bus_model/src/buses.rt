@@ -79,7 +79,8 @@ impl Bus {
         self.note_id(ask.id());
         match ask.line() {
             Some(line) => {
-                let posts = self.grant(ask, line)?;
+                let mut posts = PostBatch::new();
+                self.grant(ask, line, &mut posts)?;
                 send_all(posts.posts(), out)
             }
             None => Ok(()),
@@ -94,27 +95,26 @@ impl Bus {
         self.counters.highest.note(id);
     }
 
-    /// Grants the bus to an ask for a line of it, and answers the posts. Where a marked bus gets no memory for a note,
-    /// it is as before.
-    fn grant(&mut self, ask: &Ask, line: u32) -> Result<PostBatch, OutOfMemory>
+    /// Grants the bus to an ask for a line of it, and puts the posts into a batch with none. Where a marked bus gets no
+    /// memory for a note, it is as before.
+    fn grant(&mut self, ask: &Ask, line: u32, out: &mut PostBatch) -> Result<(), OutOfMemory>
         requires ask { IsAskOf self.old.value.setting ask.now }
         requires line { line_of ask.now ≡ Some line }
+        requires empty { out.old ≡ [] }
         ensures bus { OnOk result (self.new.value ≡ (on_line self.old.value ask.now (Some line)).0) }
         ensures saved { self.new.saved ≡ self.old.saved }
-        ensures posts { IfOk result (λ posts. posts ≡ (on_line self.old.value ask.now (Some line)).1) }
+        ensures posts { OnOk result (out.new ≡ (on_line self.old.value ask.now (Some line)).1) }
         ensures refused { OnErr result (self.new ≡ self.old) }
     {
         let setting = self.setting;
         let grant = ask.id().cycle.max(self.counters.free);
         let place = (line / setting.buses) as usize;
-        let mut out = PostBatch::new();
         self.lines.prepare(place, self.mark.is_some())?;
-        self.lines
-            .serve(place, ask, grant, &setting.delays, &mut out);
+        self.lines.serve(place, ask, grant, &setting.delays, out);
         self.counters.free = capped(grant + setting.occupancy);
         self.counters.asks = raised(self.counters.asks);
         self.counters.retries = capped(self.counters.retries + retries_in(out.posts()));
-        Ok(out)
+        Ok(())
     }
 
     /// Marks the bus as it stands. An older mark is replaced.
