@@ -15,5 +15,5 @@ pub fn capped(n: u64) -> u64
 pub fn raised(n: u64) -> u64
     ensures { result ≡ raised n }
 {
-    n.saturating_add(1).min(TOP)
+    if n < TOP { n + 1 } else { TOP }
 }

@@ -1,5 +1,5 @@
 -- What a cycle of a hart comes to.
-use Rattle.std.specs.Prelude.{◌≡◌, ℕ, ◌==◌, Bool, true, false, List, slice_index, Option, Some, None, if◌then◌else◌}
+use Rattle.std.specs.Prelude.{◌≡◌, ℕ, Bool, true, false, List, slice_index, Option, Some, None, if◌then◌else◌}
 use Rattle.slack_base.specs.declared.stamps.Id.{Id}
 use Rattle.slack_base.specs.declared.messages.Ask.{Ask}
 use Rattle.slack_base.specs.declared.messages.Ask.TheVariants as sent
@@ -46,10 +46,6 @@ pub record Does (out : HartValue × Option Ask) (id : Id) (new : HartValue) (out
 -- the same of a step in a cycle, whatever number its ask has
 abbrev pub DoesAt : (Id → HartValue × Option Ask) → (cycle : ℕ) → (old new : HartValue) → Outcome → Type 0
 DoesAt out cycle old new outcome = (number : ℕ) → Does (out (id_at cycle old number)) (id_at cycle old number) new outcome
-
--- an instruction that takes one cycle leaves the hart ready for the next
-abbrev pub completion : (cost : ℕ) → Outcome
-completion cost = if cost == 1 then Ready else Rests
 
 -- the effect of a branch to a target over registers x
 abbrev pub branching : BranchOp → (rs1 rs2 target : ℕ) → List ℕ → Effect

@@ -32,7 +32,7 @@ impl Model for Code {
 }
 
 impl Code {
-    ghost use Rattle.std.specs.Prelude.{◌≡◌, IfOk, IfSome};
+    ghost use Rattle.std.specs.Prelude.{◌≡◌, ◌-◌, None, Some, IfOk, IfSome, if◌then◌else◌};
     ghost use Rattle.slack_base.specs.Images.{Fits};
     ghost use Rattle.slack_base.specs.Numbers.{numbers_of};
     ghost use Rattle.timed_core.specs.Code.{word_at, instr_at, is_in_memory, code_of};
@@ -94,18 +94,42 @@ impl Code {
         decode(self.word(address)?)
     }
 
-    /// The instruction at an address, as it is kept.
+    /// The instruction at an address, as it is kept; or in this room, where its word isn't among those that are kept.
     #[inline(always)]
     #[tactic(auto, using(crate::proofs::Reaching::kept_at))]
-    pub fn kept(&self, address: u32) -> Kept
-        ensures value { instr_in result ≡ instr_at self.now address }
-        ensures ranges { IfSome (instr_in result) IsInRange }
+    pub fn kept<'a>(&'a self, address: u32, room: &'a mut Kept) -> &'a Kept
+        ensures value { instr_in result.now ≡ instr_at self.now address }
+        ensures ranges { IfSome (instr_in result.now) IsInRange }
     {
         let offset = address.wrapping_sub(self.base);
         let number = (offset / 4) as usize;
         if offset % 4 == 0 && number < self.kept.len() {
-            return self.kept[number];
+            return &self.kept[number];
         }
+        *room = self.decoded(address);
+        room
+    }
+
+    /// The instruction at an address, decoded of its word.
+    #[cold]
+    #[inline(never)]
+    fn decoded(&self, address: u32) -> Kept
+        ensures value { instr_in result ≡ instr_at self.now address }
+        ensures ranges { IfSome (instr_in result) IsInRange }
+    {
         Kept::of(self.instr(address))
+    }
+
+    /// How many bytes lie between the beginning of memory and an address: none where that is outside memory.
+    #[inline(always)]
+    pub fn offset(&self, address: u32) -> Option<u32>
+        ensures { result ≡ (if is_in_memory self.now address then Some (address - self.now.base) else None) }
+    {
+        let offset = address.checked_sub(self.base)?;
+        if (offset as usize) < self.bytes.len() {
+            Some(offset)
+        } else {
+            None
+        }
     }
 }

@@ -66,7 +66,6 @@ impl Hart {
     ghost use Rattle.slack_base.specs.Numbers.{numbers_of};
     ghost use Rattle.timed_core.specs.Accesses.{held_in};
     ghost use Rattle.timed_core.specs.Cores.{IsBy, first_core, is_running, with_register, completed, goes_on, gives, trapped};
-    ghost use Rattle.timed_core.specs.Outcomes.{completion};
 
     /// A hart before the first cycle.
     pub fn new(alloc: Global, number: u32, config: &Config, entry: u32) -> Result<Hart, OutOfMemory>
@@ -186,44 +185,65 @@ impl Hart {
         }
     }
 
-    /// Completes an instruction.
+    /// Completes an instruction of one cycle.
     #[inline(always)]
-    fn complete(&mut self, pc: u32, cost: u32) -> Outcome
-        requires { 1 ≤ cost }
-        ensures after { self.new ≡ completed self.old self.old.registers pc cost }
-        ensures outcome { result ≡ completion cost }
+    fn complete(&mut self, pc: u32) -> Outcome
+        requires { self.old.busy ≡ 0 }
+        ensures after { self.new ≡ completed self.old self.old.registers pc 1 }
+        ensures outcome { result ≡ Outcome.Ready }
     {
         self.pc = pc;
-        self.busy = cost - 1;
         self.counts.retired = raised(self.counts.retired);
-        Outcome::of_cost(cost)
+        Outcome::Ready
     }
 
-    /// Completes an instruction, and goes on to the next.
+    /// Completes an instruction of one cycle, and goes on to the next.
     #[inline(always)]
-    fn go_on(&mut self, cost: u32) -> Outcome
-        requires { 1 ≤ cost }
-        ensures after { self.new ≡ goes_on cost self.old }
-        ensures outcome { result ≡ completion cost }
+    fn go_on(&mut self) -> Outcome
+        requires { self.old.busy ≡ 0 }
+        ensures after { self.new ≡ goes_on 1 self.old }
+        ensures outcome { result ≡ Outcome.Ready }
     {
         let next = self.pc.wrapping_add(4);
-        self.complete(next, cost)
+        self.complete(next)
     }
 
-    /// Completes an instruction that writes a register, and goes on to the next.
+    /// Completes an instruction of one cycle that writes a register, and goes on to the next.
     #[inline(always)]
-    fn give(&mut self, rd: u8, value: u32, cost: u32) -> Outcome
+    fn give(&mut self, rd: u8, value: u32) -> Outcome
+        requires free { self.old.busy ≡ 0 }
         requires register { rd < 32 }
-        requires some { 1 ≤ cost }
-        ensures after { self.new ≡ gives rd value cost self.old }
-        ensures outcome { result ≡ completion cost }
+        ensures after { self.new ≡ gives rd value 1 self.old }
+        ensures outcome { result ≡ Outcome.Ready }
     {
         self.write(rd, value);
-        self.go_on(cost)
+        self.go_on()
+    }
+
+    /// Completes an instruction of several cycles, and goes on to the next.
+    fn go_on_late(&mut self, cost: u32) -> Outcome
+        requires { 1 < cost }
+        ensures after { self.new ≡ goes_on cost self.old }
+        ensures outcome { result ≡ Outcome.Rests }
+    {
+        self.pc = self.pc.wrapping_add(4);
+        self.busy = cost - 1;
+        self.counts.retired = raised(self.counts.retired);
+        Outcome::Rests
+    }
+
+    /// Completes an instruction of several cycles that writes a register, and goes on to the next.
+    fn give_late(&mut self, rd: u8, value: u32, cost: u32) -> Outcome
+        requires register { rd < 32 }
+        requires some { 1 < cost }
+        ensures after { self.new ≡ gives rd value cost self.old }
+        ensures outcome { result ≡ Outcome.Rests }
+    {
+        self.write(rd, value);
+        self.go_on_late(cost)
     }
 
     /// Ends the hart by a trap.
-    #[cold]
     fn trap(&mut self, cycle: u64, trap: Trap) -> Outcome
         requires { cycle ≤ TOP }
         ensures after { self.new ≡ trapped self.old cycle trap }
@@ -231,5 +251,38 @@ impl Hart {
     {
         self.ended = CoreEnd::Trapped { at: cycle, trap };
         Outcome::Rests
+    }
+
+    /// Ends the hart at a jump to no address of an instruction.
+    #[cold]
+    #[inline(never)]
+    fn trap_target(&mut self, cycle: u64, target: u32) -> Outcome
+        requires { cycle ≤ TOP }
+        ensures after { self.new ≡ trapped self.old cycle (Trap.Target target) }
+        ensures outcome { result ≡ Outcome.Rests }
+    {
+        self.trap(cycle, Trap::Target { target })
+    }
+
+    /// Ends the hart at an access that isn't aligned.
+    #[cold]
+    #[inline(never)]
+    fn trap_misaligned(&mut self, cycle: u64, address: u32) -> Outcome
+        requires { cycle ≤ TOP }
+        ensures after { self.new ≡ trapped self.old cycle (Trap.Misaligned address) }
+        ensures outcome { result ≡ Outcome.Rests }
+    {
+        self.trap(cycle, Trap::Misaligned { address })
+    }
+
+    /// Ends the hart at an access outside memory.
+    #[cold]
+    #[inline(never)]
+    fn trap_outside(&mut self, cycle: u64, address: u32) -> Outcome
+        requires { cycle ≤ TOP }
+        ensures after { self.new ≡ trapped self.old cycle (Trap.Outside address) }
+        ensures outcome { result ≡ Outcome.Rests }
+    {
+        self.trap(cycle, Trap::Outside { address })
     }
 }

@@ -97,10 +97,10 @@ impl Kept {
 
     /// Whether no instruction is kept.
     #[inline(always)]
-    pub fn is_nothing(self) -> bool
-        ensures { result ≡ is_none (instr_in self) }
+    pub fn is_nothing(&self) -> bool
+        ensures { result ≡ is_none (instr_in self.now) }
     {
-        match self {
+        match *self {
             Kept::Nothing => true,
             _ => false,
         }

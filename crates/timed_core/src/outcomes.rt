@@ -1,6 +1,6 @@
 //! What a cycle of a hart comes to.
 ghost use Rattle.std.specs.Prelude.{◌≡◌, ◌↔◌, IsTrue};
-ghost use Rattle.timed_core.specs.Outcomes.{asks, ask_of, completion};
+ghost use Rattle.timed_core.specs.Outcomes.{asks, ask_of};
 
 use slack_base::{Ask, Id};
 
@@ -20,18 +20,6 @@ pub enum Outcome {
 }
 
 impl Outcome {
-    /// What an instruction of so many cycles comes to where it asks for nothing.
-    #[inline(always)]
-    pub fn of_cost(cost: u32) -> Outcome
-        ensures { result ≡ completion cost }
-    {
-        if cost == 1 {
-            Outcome::Ready
-        } else {
-            Outcome::Rests
-        }
-    }
-
     /// Whether the hart is ready for its next instruction.
     #[inline(always)]
     pub fn is_ready(self) -> bool

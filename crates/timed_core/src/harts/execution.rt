@@ -7,6 +7,7 @@ ghost use Rattle.timed_core.specs.Ticks.{fetched};
 
 use crate::code::Code;
 use crate::harts::Hart;
+use crate::kept::Kept;
 use crate::outcomes::Outcome;
 use slack_base::Trap;
 
@@ -18,7 +19,8 @@ impl Hart {
         requires ready { IsReady self.old }
         ensures { DoesAt (λ id. fetched code.now (word_at code.now self.old.pc) id self.old) cycle self.old self.new result }
     {
-        let kept = code.kept(self.pc);
+        let mut room = Kept::Nothing;
+        let kept = code.kept(self.pc, &mut room);
         if kept.is_nothing() {
             return self.refuse(code, cycle);
         }
@@ -27,6 +29,7 @@ impl Hart {
 
     /// Ends the hart by the trap of an address at which there is no instruction.
     #[cold]
+    #[inline(never)]
     #[tactic(auto, unfolding(crate::specs::Ticks::fetched, crate::specs::Ticks::decoded))]
     fn refuse(&mut self, code: &Code, cycle: u64) -> Outcome
         requires top { cycle ≤ TOP }

@@ -12,11 +12,11 @@ ghost use Rattle.timed_core.specs.Outcomes.{IsReady, DoesAt};
 
 use crate::accesses::Access;
 use crate::code::Code;
-use crate::harts::{Hart, line_number};
+use crate::harts::Hart;
 use crate::outcomes::Outcome;
 use mesi_cache::Found;
 use rv_exec::{amo_result, load_part, store_part};
-use slack_base::{Trap, raised};
+use slack_base::raised;
 
 /// Which of the four words of its line an address is in.
 #[inline(always)]
@@ -38,24 +38,23 @@ impl Hart {
         ensures { DoesAt (λ id. accessed code.now access address 1 id self.old) cycle self.old self.new result }
     {
         if !access.is_aligned(address) {
-            return self.trap(cycle, Trap::Misaligned { address });
+            return self.trap_misaligned(cycle, address);
         }
-        if !code.is_in_memory(address) {
-            return self.trap(cycle, Trap::Outside { address });
-        }
-        self.try_access(access, code.base(), address, cycle)
+        let Some(offset) = code.offset(address) else {
+            return self.trap_outside(cycle, address);
+        };
+        self.try_access(access, offset / 16, address, cycle)
     }
 
     /// Looks the line of an access up, but for an SC whose address isn't the reservation, which fails.
     #[inline(always)]
     #[tactic(auto, unfolding(crate::specs::Accesses::tried))]
-    fn try_access(&mut self, access: Access, base: u32, address: u32, cycle: u64) -> Outcome
+    fn try_access(&mut self, access: Access, line: u32, address: u32, cycle: u64) -> Outcome
         requires ready { IsReady self.old }
         requires aligned { IsTrue (is_aligned access (address % 4)) }
         requires register { WritesRegister access }
-        ensures { DoesAt (λ id. tried access base address 1 id self.old) cycle self.old self.new result }
+        ensures { (base : ℕ) → line ≡ line_number base address → DoesAt (λ id. tried access base address 1 id self.old) cycle self.old self.new result }
     {
-        let line = line_number(base, address);
         match access {
             Access::StoreConditional { rd, .. } => {
                 if self.reservation != Some(address) {
@@ -69,12 +68,13 @@ impl Hart {
 
     /// An SC that fails gives 1, and loses the reservation.
     fn fail(&mut self, rd: u8) -> Outcome
-        requires { rd < 32 }
+        requires free { self.old.busy ≡ 0 }
+        requires register { rd < 32 }
         ensures after { self.new ≡ failed rd 1 self.old }
         ensures outcome { result ≡ Outcome.Ready }
     {
         self.reservation = None;
-        self.give(rd, 1, 1)
+        self.give(rd, 1)
     }
 
     /// Does an access to its line if the cache holds it so that the access hits, and else asks for the line.
@@ -99,6 +99,7 @@ impl Hart {
     #[inline(always)]
     #[tactic(auto, unfolding(crate::specs::Accesses::hit))]
     fn hit(&mut self, access: Access, found: Found, address: u32, old: u32) -> Outcome
+        requires free { self.old.busy ≡ 0 }
         requires found { IsFoundIn self.old.cache found }
         requires hits { IsTrue (hits access found.held) }
         requires aligned { IsTrue (is_aligned access (address % 4)) }
@@ -109,25 +110,25 @@ impl Hart {
         match access {
             Access::Load { op, rd } => {
                 self.read_at(found);
-                self.give(rd, load_part(op, old, address % 4), 1)
+                self.give(rd, load_part(op, old, address % 4))
             }
             Access::Store { op, value } => {
                 self.write_at(found, address, store_part(op, old, address % 4, value));
-                self.go_on(1)
+                self.go_on()
             }
             Access::LoadReserved { rd } => {
                 self.read_at(found);
                 self.reservation = Some(address);
-                self.give(rd, old, 1)
+                self.give(rd, old)
             }
             Access::StoreConditional { rd, value } => {
                 self.write_at(found, address, value);
                 self.reservation = None;
-                self.give(rd, 0, 1)
+                self.give(rd, 0)
             }
             Access::Amo { op, rd, operand } => {
                 self.write_at(found, address, amo_result(op, old, operand));
-                self.give(rd, old, 1)
+                self.give(rd, old)
             }
         }
     }

@@ -31,16 +31,16 @@ impl Hart {
     #[rattlefmt::skip]
     #[inline(always)]
     #[tactic(auto, unfolding(crate::specs::Outcomes::executed, crate::specs::Effects::effect_of, crate::specs::Ticks::performed))]
-    pub fn execute(&mut self, code: &Code, kept: Kept, cycle: u64) -> Outcome
+    pub fn execute(&mut self, code: &Code, kept: &Kept, cycle: u64) -> Outcome
         requires top { cycle ≤ TOP }
         requires ready { IsReady self.old }
-        requires kept { IsSomeAnd (instr_in kept) IsInRange }
-        ensures { DoesAt (λ id. executed code.now (instr_in kept) id self.old) cycle self.old self.new result }
+        requires kept { IsSomeAnd (instr_in kept.now) IsInRange }
+        ensures { DoesAt (λ id. executed code.now (instr_in kept.now) id self.old) cycle self.old self.new result }
     {
-        match kept {
+        match *kept {
             Kept::Nothing => unreachable!(),
-            Kept::Lui(rd, upper) => self.give(rd, upper << 12, 1),
-            Kept::Auipc(rd, upper) => self.give(rd, self.pc.wrapping_add(upper << 12), 1),
+            Kept::Lui(rd, upper) => self.give(rd, upper << 12),
+            Kept::Auipc(rd, upper) => self.give(rd, self.pc.wrapping_add(upper << 12)),
             Kept::Jal(rd, offset) => self.jump(rd, target(self.pc, offset), cycle),
             Kept::Jalr(rd, rs1, offset) => self.jump(rd, even(target(self.x(rs1), offset)), cycle),
             Kept::Beq(rs1, rs2, offset) => self.branch(BranchOp::Beq, rs1, rs2, target(self.pc, offset), cycle),
@@ -57,37 +57,37 @@ impl Hart {
             Kept::Sb(rs1, rs2, offset) => self.access(code, Access::Store { op: StoreOp::Sb, value: self.x(rs2) }, target(self.x(rs1), offset), cycle),
             Kept::Sh(rs1, rs2, offset) => self.access(code, Access::Store { op: StoreOp::Sh, value: self.x(rs2) }, target(self.x(rs1), offset), cycle),
             Kept::Sw(rs1, rs2, offset) => self.access(code, Access::Store { op: StoreOp::Sw, value: self.x(rs2) }, target(self.x(rs1), offset), cycle),
-            Kept::Addi(rd, rs1, value) => self.give(rd, alu(RegOp::Add, self.x(rs1), word(value)), 1),
-            Kept::Slti(rd, rs1, value) => self.give(rd, alu(RegOp::Slt, self.x(rs1), word(value)), 1),
-            Kept::Sltiu(rd, rs1, value) => self.give(rd, alu(RegOp::Sltu, self.x(rs1), word(value)), 1),
-            Kept::Xori(rd, rs1, value) => self.give(rd, alu(RegOp::Xor, self.x(rs1), word(value)), 1),
-            Kept::Ori(rd, rs1, value) => self.give(rd, alu(RegOp::Or, self.x(rs1), word(value)), 1),
-            Kept::Andi(rd, rs1, value) => self.give(rd, alu(RegOp::And, self.x(rs1), word(value)), 1),
-            Kept::Slli(rd, rs1, amount) => self.give(rd, alu(RegOp::Sll, self.x(rs1), u32::from(amount)), 1),
-            Kept::Srli(rd, rs1, amount) => self.give(rd, alu(RegOp::Srl, self.x(rs1), u32::from(amount)), 1),
-            Kept::Srai(rd, rs1, amount) => self.give(rd, alu(RegOp::Sra, self.x(rs1), u32::from(amount)), 1),
-            Kept::Add(rd, rs1, rs2) => self.give(rd, alu(RegOp::Add, self.x(rs1), self.x(rs2)), 1),
-            Kept::Sll(rd, rs1, rs2) => self.give(rd, alu(RegOp::Sll, self.x(rs1), self.x(rs2)), 1),
-            Kept::Slt(rd, rs1, rs2) => self.give(rd, alu(RegOp::Slt, self.x(rs1), self.x(rs2)), 1),
-            Kept::Sltu(rd, rs1, rs2) => self.give(rd, alu(RegOp::Sltu, self.x(rs1), self.x(rs2)), 1),
-            Kept::Xor(rd, rs1, rs2) => self.give(rd, alu(RegOp::Xor, self.x(rs1), self.x(rs2)), 1),
-            Kept::Srl(rd, rs1, rs2) => self.give(rd, alu(RegOp::Srl, self.x(rs1), self.x(rs2)), 1),
-            Kept::Or(rd, rs1, rs2) => self.give(rd, alu(RegOp::Or, self.x(rs1), self.x(rs2)), 1),
-            Kept::And(rd, rs1, rs2) => self.give(rd, alu(RegOp::And, self.x(rs1), self.x(rs2)), 1),
-            Kept::Sub(rd, rs1, rs2) => self.give(rd, alu(RegOp::Sub, self.x(rs1), self.x(rs2)), 1),
-            Kept::Sra(rd, rs1, rs2) => self.give(rd, alu(RegOp::Sra, self.x(rs1), self.x(rs2)), 1),
-            Kept::Mul(rd, rs1, rs2) => self.give(rd, alu(RegOp::Mul, self.x(rs1), self.x(rs2)), 3),
-            Kept::Mulh(rd, rs1, rs2) => self.give(rd, alu(RegOp::Mulh, self.x(rs1), self.x(rs2)), 3),
-            Kept::Mulhsu(rd, rs1, rs2) => self.give(rd, alu(RegOp::Mulhsu, self.x(rs1), self.x(rs2)), 3),
-            Kept::Mulhu(rd, rs1, rs2) => self.give(rd, alu(RegOp::Mulhu, self.x(rs1), self.x(rs2)), 3),
-            Kept::Div(rd, rs1, rs2) => self.give(rd, alu(RegOp::Div, self.x(rs1), self.x(rs2)), 16),
-            Kept::Divu(rd, rs1, rs2) => self.give(rd, alu(RegOp::Divu, self.x(rs1), self.x(rs2)), 16),
-            Kept::Rem(rd, rs1, rs2) => self.give(rd, alu(RegOp::Rem, self.x(rs1), self.x(rs2)), 16),
-            Kept::Remu(rd, rs1, rs2) => self.give(rd, alu(RegOp::Remu, self.x(rs1), self.x(rs2)), 16),
+            Kept::Addi(rd, rs1, value) => self.give(rd, alu(RegOp::Add, self.x(rs1), word(value))),
+            Kept::Slti(rd, rs1, value) => self.give(rd, alu(RegOp::Slt, self.x(rs1), word(value))),
+            Kept::Sltiu(rd, rs1, value) => self.give(rd, alu(RegOp::Sltu, self.x(rs1), word(value))),
+            Kept::Xori(rd, rs1, value) => self.give(rd, alu(RegOp::Xor, self.x(rs1), word(value))),
+            Kept::Ori(rd, rs1, value) => self.give(rd, alu(RegOp::Or, self.x(rs1), word(value))),
+            Kept::Andi(rd, rs1, value) => self.give(rd, alu(RegOp::And, self.x(rs1), word(value))),
+            Kept::Slli(rd, rs1, amount) => self.give(rd, alu(RegOp::Sll, self.x(rs1), u32::from(amount))),
+            Kept::Srli(rd, rs1, amount) => self.give(rd, alu(RegOp::Srl, self.x(rs1), u32::from(amount))),
+            Kept::Srai(rd, rs1, amount) => self.give(rd, alu(RegOp::Sra, self.x(rs1), u32::from(amount))),
+            Kept::Add(rd, rs1, rs2) => self.give(rd, alu(RegOp::Add, self.x(rs1), self.x(rs2))),
+            Kept::Sll(rd, rs1, rs2) => self.give(rd, alu(RegOp::Sll, self.x(rs1), self.x(rs2))),
+            Kept::Slt(rd, rs1, rs2) => self.give(rd, alu(RegOp::Slt, self.x(rs1), self.x(rs2))),
+            Kept::Sltu(rd, rs1, rs2) => self.give(rd, alu(RegOp::Sltu, self.x(rs1), self.x(rs2))),
+            Kept::Xor(rd, rs1, rs2) => self.give(rd, alu(RegOp::Xor, self.x(rs1), self.x(rs2))),
+            Kept::Srl(rd, rs1, rs2) => self.give(rd, alu(RegOp::Srl, self.x(rs1), self.x(rs2))),
+            Kept::Or(rd, rs1, rs2) => self.give(rd, alu(RegOp::Or, self.x(rs1), self.x(rs2))),
+            Kept::And(rd, rs1, rs2) => self.give(rd, alu(RegOp::And, self.x(rs1), self.x(rs2))),
+            Kept::Sub(rd, rs1, rs2) => self.give(rd, alu(RegOp::Sub, self.x(rs1), self.x(rs2))),
+            Kept::Sra(rd, rs1, rs2) => self.give(rd, alu(RegOp::Sra, self.x(rs1), self.x(rs2))),
+            Kept::Mul(rd, rs1, rs2) => self.give_late(rd, alu(RegOp::Mul, self.x(rs1), self.x(rs2)), 3),
+            Kept::Mulh(rd, rs1, rs2) => self.give_late(rd, alu(RegOp::Mulh, self.x(rs1), self.x(rs2)), 3),
+            Kept::Mulhsu(rd, rs1, rs2) => self.give_late(rd, alu(RegOp::Mulhsu, self.x(rs1), self.x(rs2)), 3),
+            Kept::Mulhu(rd, rs1, rs2) => self.give_late(rd, alu(RegOp::Mulhu, self.x(rs1), self.x(rs2)), 3),
+            Kept::Div(rd, rs1, rs2) => self.give_late(rd, alu(RegOp::Div, self.x(rs1), self.x(rs2)), 16),
+            Kept::Divu(rd, rs1, rs2) => self.give_late(rd, alu(RegOp::Divu, self.x(rs1), self.x(rs2)), 16),
+            Kept::Rem(rd, rs1, rs2) => self.give_late(rd, alu(RegOp::Rem, self.x(rs1), self.x(rs2)), 16),
+            Kept::Remu(rd, rs1, rs2) => self.give_late(rd, alu(RegOp::Remu, self.x(rs1), self.x(rs2)), 16),
             Kept::Lr(rd, rs1, _, _) => self.access(code, Access::LoadReserved { rd }, self.x(rs1), cycle),
             Kept::Sc(rd, rs1, rs2, _, _) => self.access(code, Access::StoreConditional { rd, value: self.x(rs2) }, self.x(rs1), cycle),
             Kept::Amo(op, rd, rs1, rs2, _, _) => self.access(code, Access::Amo { op, rd, operand: self.x(rs2) }, self.x(rs1), cycle),
-            Kept::Fence(_) => self.go_on(1),
+            Kept::Fence(_) => self.go_on(),
             Kept::Ecall => self.call(cycle),
             Kept::Ebreak => self.trap(cycle, Trap::Break { pc: self.pc }),
         }
@@ -103,10 +103,10 @@ impl Hart {
         ensures { (code : CodeValue) → DoesAt (λ id. performed code (goes_to target (Jump rd target)) 1 id self.old) cycle self.old self.new result }
     {
         if target % 4 != 0 {
-            return self.trap(cycle, Trap::Target { target });
+            return self.trap_target(cycle, target);
         }
         self.write(rd, self.pc.wrapping_add(4));
-        self.complete(target, 1)
+        self.complete(target)
     }
 
     /// Branches to the target where the condition holds, and else goes on to the next instruction.
@@ -119,16 +119,17 @@ impl Hart {
         ensures { (code : CodeValue) → DoesAt (λ id. performed code (branching op rs1 rs2 target self.old.registers) 1 id self.old) cycle self.old self.new result }
     {
         if !branch_taken(op, self.x(rs1), self.x(rs2)) {
-            return self.go_on(1);
+            return self.go_on();
         }
         if target % 4 != 0 {
-            return self.trap(cycle, Trap::Target { target });
+            return self.trap_target(cycle, target);
         }
-        self.complete(target, 1)
+        self.complete(target)
     }
 
     /// Calls the service that x17 names.
     #[cold]
+    #[inline(never)]
     #[tactic(auto, unfolding(crate::specs::Ticks::called))]
     fn call(&mut self, cycle: u64) -> Outcome
         requires { cycle ≤ TOP }
@@ -137,7 +138,7 @@ impl Hart {
         let service = self.registers[17];
         let argument = self.registers[10];
         if service == 1 {
-            self.go_on(4);
+            self.go_on_late(4);
             return Outcome::Put {
                 byte: (argument % 256) as u8,
             };
@@ -145,7 +146,7 @@ impl Hart {
         if service != 93 {
             return self.trap(cycle, Trap::Call { number: service });
         }
-        self.go_on(4);
+        self.go_on_late(4);
         self.ended = CoreEnd::Exit {
             at: cycle,
             code: argument,

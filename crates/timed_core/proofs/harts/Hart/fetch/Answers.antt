@@ -11,6 +11,6 @@ returns c = λ number.
     let code = c.args.code.now in
     let core = c.args.self.now in
     let id = id_at c.args.cycle core number in
-    let instr : instr_in c.kept-kept.result ≡ instr_at code core.pc = c.kept-kept.ensures.value ∙ ap (λ h. instr_at code h.pc) c.self.view_is in
+    let instr : instr_in c.kept-kept.result.now ≡ instr_at code core.pc = c.kept-kept.ensures.value ∙ ap (λ h. instr_at code h.pc) c.self.view_is in
     subst (λ out. Does out id c.execute.new.self c.execute.result)
-    (executed_of code id core (instr_in c.kept-kept.result) instr (search rules)) (c.execute.ensures number)
+    (executed_of code id core (instr_in c.kept-kept.result.now) instr (search rules)) (c.execute.ensures number)

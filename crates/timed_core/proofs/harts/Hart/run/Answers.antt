@@ -1,4 +1,4 @@
-use Rattle.std.proofs.Common.{◌≡◌, ◌∙◌, ◌+◌, ap, sym, refl, arith, rules}
+use Rattle.std.proofs.Common.{◌∙◌, ◌+◌, ap, refl, arith}
 use Rattle.timed_core.specs.Outcomes.{asks}
 use Rattle.timed_core.specs.declared.outcomes.Outcome.TheVariants.{Ready}
 use Rattle.timed_core.proofs.Stretches.{silent_stretch, instruction_on, went_on}

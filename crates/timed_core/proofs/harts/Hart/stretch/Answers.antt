@@ -1,4 +1,4 @@
-use Rattle.std.proofs.Common.{◌≡◌, ◌∙◌, ℕ, refl, arith, rules}
+use Rattle.std.proofs.Common.{ℕ, refl, arith, rules}
 use Rattle.timed_core.specs.Stretches.{IsStretch}
 use Rattle.timed_core.specs.declared.outcomes.Outcome.TheVariants.{Rests}
 use Rattle.timed_core.proofs.Stretches.{silent_stretch, stretch_on, went_on}
