@@ -1,5 +1,5 @@
 //! The posts of an inbox whose dues are near each other, in a wheel of slots.
-ghost use Rattle.std.specs.Prelude.{◌≡◌, ◌≢◌, ◌+◌, ◌<◌, ◌≤◌, ◌⊎◌, max, [], ◌∷◌, MatchBool, MatchOption, IfOk, IfNone, IfSome, OnErr};
+ghost use Rattle.std.specs.Prelude.{◌≡◌, ◌≢◌, ◌+◌, ◌-◌, ◌<◌, ◌≤◌, ◌⊎◌, max, [], ◌∷◌, MatchBool, MatchOption, IfOk, IfNone, IfSome, OnErr};
 ghost use Rattle.std.specs.List.{AllByRecursion};
 ghost use Rattle.slack_base.specs.Inboxes.{with_post};
 ghost use Rattle.stamp_queue.specs.Inbox.{next_due};
@@ -106,6 +106,7 @@ impl Wheel {
 /// The least floor, from the old one on, with which a wheel holds the due too, where its first post has this due: none
 /// where there is none.
 fn floor_for(floor: u64, first: u64, due: u64) -> Option<u64>
+    ensures least { IfSome result (λ raised. raised ≡ max floor (due - 255)) }
     ensures grows { IfSome result (λ raised. (floor ≤ raised) × (raised ≤ max floor first)) }
     ensures holds { IfSome result (λ raised. (raised ≤ due) × (due ≤ raised + 255)) }
     ensures none { IfNone result ((due < floor) ⊎ (max floor first + 255 < due)) }
