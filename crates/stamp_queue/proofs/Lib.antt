@@ -1,3 +1,10 @@
+pub mod Chains
 pub mod Fronts
+pub mod Marks
+pub mod Merged
 pub mod Order
 pub mod Places
+pub mod Slotted
+pub mod Wheels
+pub mod ByDue
+pub mod Wholes

@@ -7,38 +7,24 @@ use Rattle.stamp_queue.specs.Inbox.{IsInOrder, IsPutBetween}
 use Rattle.stamp_queue.proofs.Order.{no_later_than, no_later_back, due_no_later}
 
 -- each of the list
-weaker : (P Q : Post → Type 0) → ((p : Post) → P p → Q p) → (inbox : List Post) → AllByRecursion P inbox → AllByRecursion Q inbox
+pub weaker : (P Q : Post → Type 0) → ((p : Post) → P p → Q p) → (inbox : List Post) → AllByRecursion P inbox → AllByRecursion Q inbox
 weaker P Q f [] h = tt
 weaker P Q f (p ∷ inbox) h = (f p h.0, weaker P Q f inbox h.1)
 
--- a post that isn't due is before no post that is
-none_due : (cycle : ℕ) (p : Post) (inbox : List Post) → IsInOrder (p ∷ inbox) → cycle < p.due → AllByRecursion (λ q. cycle < q.due) (p ∷ inbox)
-none_due cycle p inbox o h =
-    (h, weaker (λ q. is_later p q ≡ false) (λ q. cycle < q.due) (λ q no_later. let d = due_no_later p q no_later in omega arith) inbox o.0)
-
--- the same of a list whose first post is read
-pub none_due_from_first : (cycle : ℕ) (p : Post) (inbox : List Post) → IsInOrder inbox → Some p ≡ slice_get inbox 0 → cycle < p.due → AllByRecursion (λ q. cycle < q.due) inbox
-none_due_from_first cycle p [] o first h = tt
-none_due_from_first cycle p (q ∷ inbox) o first h =
-    let same : p ≡ q = cc in none_due cycle q inbox o (subst (λ r. cycle < r.due) same h)
-
--- no post of a list is due before its first
-pub none_before_first : (p : Post) (inbox : List Post) → IsInOrder inbox → Some p ≡ slice_get inbox 0 → AllByRecursion (λ q. p.due ≤ q.due) inbox
-none_before_first p [] o first = tt
-none_before_first p (q ∷ inbox) o first =
-    let same : q ≡ p = cc in
-    subst (λ r. AllByRecursion (λ x. r.due ≤ x.due) (q ∷ inbox)) same
-    (omega arith, weaker (λ x. is_later q x ≡ false) (λ x. q.due ≤ x.due) (λ x no_later. due_no_later q x no_later) inbox o.0)
+-- each of the list, by two facts
+pub both_weaker : (P Q R : Post → Type 0) → ((p : Post) → P p → Q p → R p) → (inbox : List Post) → AllByRecursion P inbox → AllByRecursion Q inbox → AllByRecursion R inbox
+both_weaker P Q R f [] h g = tt
+both_weaker P Q R f (p ∷ inbox) h g = (f p h.0 g.0, both_weaker P Q R f inbox h.1 g.1)
 
 -- one post of the list compared
-with_post-pass : (p q : Post) (inbox : List Post) → is_later q p ≡ false → with_post (q ∷ inbox) p ≡ q ∷ with_post inbox p
+pub with_post-pass : (p q : Post) (inbox : List Post) → is_later q p ≡ false → with_post (q ∷ inbox) p ≡ q ∷ with_post inbox p
 with_post-pass p q inbox h = ap (λ b. cond b (p ∷ q ∷ inbox) (q ∷ with_post inbox p)) h
 
-with_post-stop : (p q : Post) (inbox : List Post) → is_later q p ≡ true → with_post (q ∷ inbox) p ≡ p ∷ q ∷ inbox
+pub with_post-stop : (p q : Post) (inbox : List Post) → is_later q p ≡ true → with_post (q ∷ inbox) p ≡ p ∷ q ∷ inbox
 with_post-stop p q inbox h = ap (λ b. cond b (p ∷ q ∷ inbox) (q ∷ with_post inbox p)) h
 
 -- a post that all of the list come after
-later_all : (p q : Post) (inbox : List Post) → is_later q p ≡ true → AllByRecursion (λ r. is_later q r ≡ false) inbox → AllByRecursion (λ r. is_later r p ≡ true) inbox
+pub later_all : (p q : Post) (inbox : List Post) → is_later q p ≡ true → AllByRecursion (λ r. is_later q r ≡ false) inbox → AllByRecursion (λ r. is_later r p ≡ true) inbox
 later_all p q [] h o = tt
 later_all p q (r ∷ inbox) h o =
     let one : is_later r p ≡ true = elim (is_later r p) as (λ b. is_later r p ≡ b → b ≡ true) [
@@ -71,7 +57,7 @@ put_between (q ∷ inbox) p o =
     ] refl
 
 -- a fact of all posts stays one with a post more
-all_with : (P : Post → Type 0) (inbox : List Post) (p : Post) → P p → AllByRecursion P inbox → AllByRecursion P (with_post inbox p)
+pub all_with : (P : Post → Type 0) (inbox : List Post) (p : Post) → P p → AllByRecursion P inbox → AllByRecursion P (with_post inbox p)
 all_with P [] p h all = (h, tt)
 all_with P (q ∷ inbox) p h all =
     elim (is_later q p) as (λ b. AllByRecursion P (cond b (p ∷ q ∷ inbox) (q ∷ with_post inbox p))) [

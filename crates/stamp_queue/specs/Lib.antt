@@ -1,3 +1,10 @@
+pub mod Bits
 pub mod Inbox
+pub mod Merged
+pub mod Occupied
+pub mod OffWheel
 pub mod Rings
+pub mod Slots
 pub mod Laws
+pub mod Wheel
+pub mod Whole

@@ -1,17 +1,36 @@
 //! The inbox of a core: the posts that wait for it, in the order in which it applies them.
-ghost use Rattle.std.specs.Prelude.{◌≡◌, ◌+◌, ◌<◌, ◌≤◌, ◌↔◌, [], ◌∷◌, ◌++◌, length, take, drop, false, IsTrue, IsNone, IfNone, IfOk, IfSome, OnOk, OnErr};
+ghost use Rattle.std.specs.Prelude.{◌≡◌, ◌+◌, ◌<◌, ◌≤◌, ◌↔◌, [], ◌∷◌, ◌++◌, length, false, IsTrue, IsNone, IfNone, IfOk, IfSome, MatchOption, OnOk, OnErr};
 ghost use Rattle.std.specs.List.{AllByRecursion};
 ghost use Rattle.slack_base.specs.Inboxes.{is_later, with_post};
 ghost use Rattle.stamp_queue.specs.Inbox.{IsInOrder, IsPutBetween, next_due};
+ghost use Rattle.stamp_queue.specs.Merged.{with_posts};
+ghost use Rattle.stamp_queue.specs.Whole.{IsSplit, IsWhole, IsPut, IsTaken, AreSame, IsNoneTaken};
 
+mod nodes;
+mod occupied;
+mod off_wheel;
+mod order;
+mod same_due;
+mod slots;
+mod wheel;
+
+use off_wheel::OffWheel;
 use slack_base::{OutOfMemory, Post};
 use std::alloc::Global;
 use std::marker::Model;
+use wheel::Wheel;
 
 /// The posts that wait for a core, in order of (due, id). A contract sees the list of them.
+///
+/// Most stand in a wheel of 256 slots by their dues modulo 256, those whose dues are from a floor to 255 cycles behind
+/// it; all others, late ones too, in a map. A post stays where it was put, and all posts of one due stand in one of the
+/// two. The due of the first post is kept, so that one comparison tells that none is due.
 #[derive(Debug, Drop)]
 pub struct Inbox {
-    posts: Vec<Post>,
+    wheel: Wheel,
+    off_wheel: OffWheel,
+    first: u64,
+    count: usize,
 }
 
 impl Model for Inbox {
@@ -20,11 +39,12 @@ impl Model for Inbox {
 
     ghost Value = { List Post };
 
-    ghost view = { λ i. i.posts.items };
+    ghost use Rattle.stamp_queue.specs.Merged.{with_posts};
+    ghost use Rattle.stamp_queue.specs.Whole.{IsWhole};
 
-    ghost use Rattle.stamp_queue.specs.Inbox.{IsInOrder};
+    ghost view = { λ i. with_posts i.off_wheel i.wheel };
 
-    ghost invariant = { λ i. IsInOrder i.posts.items };
+    ghost invariant = { λ i. IsWhole i.wheel i.off_wheel i.first i.count };
 }
 
 impl Inbox {
@@ -33,7 +53,10 @@ impl Inbox {
         ensures { result ≡ [] }
     {
         Inbox {
-            posts: Vec::new(alloc),
+            wheel: Wheel::new(alloc),
+            off_wheel: OffWheel::new(alloc),
+            first: u64::MAX,
+            count: 0,
         }
     }
 
@@ -43,7 +66,10 @@ impl Inbox {
         ensures in_order { IsInOrder self.now }
     {
         Ok(Inbox {
-            posts: self.posts.clone()?,
+            wheel: self.wheel.copy()?,
+            off_wheel: self.off_wheel.copy()?,
+            first: self.first,
+            count: self.count,
         })
     }
 
@@ -52,14 +78,14 @@ impl Inbox {
         ensures count { result ≡ length self.now }
         ensures in_order { IsInOrder self.now }
     {
-        self.posts.len()
+        self.count
     }
 
     /// Whether no post waits.
     pub fn is_empty(&self) -> bool
         ensures { IsTrue result ↔ (self.now ≡ []) }
     {
-        self.posts.is_empty()
+        self.count == 0
     }
 
     /// The cycle at which the first post is due, before which none is: the greatest `u64` where no post waits.
@@ -68,10 +94,7 @@ impl Inbox {
         ensures before { AllByRecursion (λ p. result ≤ p.due) self.now }
         ensures in_order { IsInOrder self.now }
     {
-        match self.posts.first() {
-            Some(post) => post.due,
-            None => u64::MAX,
-        }
+        self.first
     }
 
     /// Puts a post in its place, behind those of the same due and id that are there.
@@ -81,8 +104,10 @@ impl Inbox {
         ensures err { OnErr result (self.new ≡ self.old) }
         ensures in_order { IsInOrder self.new }
     {
-        let place = place_of(&self.posts, &post);
-        self.posts.insert(place, post)?;
+        let count = self.count.checked_add(1).ok_or(OutOfMemory)?;
+        put_post(&mut self.wheel, &mut self.off_wheel, post)?;
+        self.first = self.first.min(post.due);
+        self.count = count;
         Ok(())
     }
 
@@ -94,31 +119,40 @@ impl Inbox {
         ensures least { IfSome result (λ p. AllByRecursion (λ q. is_later p q ≡ false) self.new) }
         ensures in_order { IsInOrder self.new }
     {
-        let first = self.posts.first()?;
-        if first.due > cycle {
+        if cycle < self.first {
             return None;
         }
-        Some(self.posts.remove(0))
+        let post = take_first(&mut self.wheel, &mut self.off_wheel, self.first)?;
+        self.first = self.wheel.first().min(self.off_wheel.first());
+        self.count -= 1;
+        Some(post)
     }
 }
 
-/// The place behind the posts that are no later, in a list in order.
-fn place_of(posts: &[Post], post: &Post) -> usize
-    ensures within { result ≤ length posts.now }
-    ensures place { with_post posts.now post.now ≡ take result posts.now ++ post.now ∷ drop result posts.now }
+/// Puts a post into the wheel: or off it, where its due isn't one of the wheel's, or stands there already.
+fn put_post(wheel: &mut Wheel, off_wheel: &mut OffWheel, post: Post) -> Result<(), OutOfMemory>
+    requires { IsSplit wheel.old off_wheel.old }
+    ensures ok { OnOk result (IsPut wheel.old off_wheel.old wheel.new off_wheel.new post) }
+    ensures err { OnErr result (AreSame wheel.old off_wheel.old wheel.new off_wheel.new) }
 {
-    let mut place = 0;
-    while place < posts.len() && !is_later(&posts[place], post) {
-        place += 1;
+    if off_wheel.has(post.due) {
+        return off_wheel.put(post);
     }
-    place
+    if wheel.put(post)? {
+        return Ok(());
+    }
+    off_wheel.put(post)
 }
 
-/// Whether the first post comes later than the second, by (due, id).
-fn is_later(q: &Post, p: &Post) -> bool
-    ensures { result ≡ is_later q.now p.now }
+/// Takes out the first post, whose due is known, of the wheel or of those off it.
+fn take_first(wheel: &mut Wheel, off_wheel: &mut OffWheel, first: u64) -> Option<Post>
+    requires { IsWhole wheel.old off_wheel.old first (length (with_posts off_wheel.old wheel.old)) }
+    ensures { MatchOption result (IsNoneTaken wheel.old off_wheel.old wheel.new off_wheel.new) (IsTaken wheel.old off_wheel.old wheel.new off_wheel.new) }
 {
-    q.due > p.due || (q.due == p.due && q.id > p.id)
+    if let Some(post) = wheel.take_due(first) {
+        return Some(post);
+    }
+    off_wheel.take_first()
 }
 
 #[cfg(test)]

@@ -1,4 +1,7 @@
+mod plain;
+
 use super::*;
+use plain::{Draws, Plain, drawn_post};
 use slack_base::{Id, PostKind};
 use std::alloc::Global;
 use std::test::Fail;
@@ -155,5 +158,59 @@ fn a_copy_stands_alone(rt: HostRuntime) -> Result<(), Fail> {
     assert_eq!(rt; copy.take_due(9), Some(first));
     assert_eq!(rt; copy.take_due(9), Some(last));
     assert!(rt; copy.is_empty());
+    Ok(())
+}
+
+/// Posts whose dues are before, on and behind the wheel, one of them late.
+#[test]
+fn posts_on_and_off_the_wheel(rt: HostRuntime) -> Result<(), Fail> {
+    let puts = [
+        post(600, 1, 0),
+        post(5, 1, 1),
+        post(261, 1, 2),
+        post(5, 1, 0),
+        post(4, 3, 0),
+    ];
+    let mut inbox = inbox_of(rt.alloc(), &puts)?;
+    assert_eq!(rt; inbox.take_due(4), Some(post(4, 3, 0)));
+    let takes = [
+        Some(post(5, 1, 0)),
+        Some(post(5, 1, 1)),
+        Some(post(261, 1, 2)),
+        None,
+    ];
+    for taken in takes {
+        assert_eq!(rt; inbox.take_due(261), taken);
+    }
+    inbox.put(post(2, 9, 0))?;
+    assert_eq!(rt; inbox.take_due(599), Some(post(2, 9, 0)));
+    assert_eq!(rt; inbox.take_due(599), None);
+    assert_eq!(rt; inbox.take_due(600), Some(post(600, 1, 0)));
+    assert!(rt; inbox.is_empty());
+    Ok(())
+}
+
+/// An inbox beside a plain list, over drawn puts and takes. The clock goes round the wheel, and jumps at times.
+#[test]
+fn as_a_plain_list(rt: HostRuntime) -> Result<(), Fail> {
+    let mut draws = Draws::new();
+    let mut inbox = Inbox::new(rt.alloc());
+    let mut plain = Plain::new(rt.alloc());
+    let mut clock = 0u64;
+    for step in 0..500_000u32 {
+        if draws.below(5) < 2 {
+            let post = drawn_post(&mut draws, clock, step);
+            inbox.put(post)?;
+            plain.put(post)?;
+        } else {
+            assert_eq!(rt; inbox.take_due(clock), plain.take_due(clock), "{step}");
+            clock = clock.wrapping_add(draws.below(4));
+        }
+        if draws.below(1000) == 0 {
+            clock = clock.wrapping_add(draws.below(3000));
+        }
+        assert_eq!(rt; inbox.next_due(), plain.next_due(), "{step}");
+        assert_eq!(rt; inbox.len(), plain.len(), "{step}");
+    }
     Ok(())
 }

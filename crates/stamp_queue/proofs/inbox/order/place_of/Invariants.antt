@@ -1,6 +1,6 @@
 use Rattle.std.proofs.Common.{length, ◌-◌, ◌≡◌, ◌≤◌, ◌++◌, take, drop}
 use Rattle.slack_base.specs.Inboxes.{with_post}
-use Rattle.stamp_queue.proofs.inbox.place_of.Given as goal
+use Rattle.stamp_queue.proofs.inbox.order.place_of.Given as goal
 
 -- the post stands behind those so far
 abbrev pub invariant-loop-place : goal.invariant-loop-place

@@ -1,0 +1,7 @@
+use Rattle.std.proofs.Common.{subst}
+use Rattle.stamp_queue.specs.Inbox.{IsInOrder}
+use Rattle.stamp_queue.proofs.Wholes.{whole_order}
+use Rattle.stamp_queue.proofs.inbox.Inbox.len.Goals as goal
+
+pub returns-clause-in_order : goal.returns-clause-in_order
+returns-clause-in_order c = subst IsInOrder c.self.view_is (whole_order _ _ _ _ c.self.invariant)

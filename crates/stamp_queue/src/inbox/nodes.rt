@@ -1,0 +1,150 @@
+//! The nodes of a wheel: the posts that wait in it, and places that are free.
+ghost use Rattle.std.specs.Prelude.{◌≡◌, ◌≢◌, ℕ, ◌%◌, drop, MatchOption, IfOk, IfSome, OnErr, IsTrue};
+ghost use Rattle.std.specs.declared.option.Option.TheVariants.{None, Some};
+ghost use Rattle.slack_base.specs.Inboxes.{with_post};
+ghost use Rattle.stamp_queue.specs.Slots.{slot_posts, chain_len, IsSlot, KeepsSlot, KeepsAll, HasPlace, IsFreeIn, StandsBefore, IsNextNoLater};
+
+use super::order::is_later;
+use slack_base::{OutOfMemory, Post};
+
+/// The place that stands for none.
+pub(super) const NOWHERE: u32 = u32::MAX;
+
+/// A post of a slot: with the place of the next post of the slot, and how many stand behind it there. Or a place that
+/// is free: with no post, and the place of the next that is free.
+#[derive(Clone, Copy, Debug)]
+pub(super) struct Node {
+    pub post: Option<Post>,
+    pub next: u32,
+    pub behind: u32,
+}
+
+impl Node {
+    ghost use Rattle.std.specs.Prelude.{◌≡◌, IfSome};
+    ghost use Rattle.std.specs.declared.option.Option.TheVariants.{None};
+    ghost use Rattle.stamp_queue.specs.Slots.{rest_of};
+
+    /// A free place, with the place of the next that is free.
+    pub fn free(next: u32) -> Node
+        ensures { result.post ≡ None }
+    {
+        Node {
+            post: None,
+            next,
+            behind: 0,
+        }
+    }
+
+    /// The due of the node's post: the greatest `u64` where it has none.
+    pub fn due(&self) -> u64
+        ensures { IfSome self.now.post (λ post. result ≡ post.due) }
+    {
+        match &self.post {
+            Some(post) => post.due,
+            None => u64::MAX,
+        }
+    }
+
+    /// The place of the next post of the slot, if there is one.
+    pub fn rest(&self) -> Option<u32>
+        ensures { result ≡ rest_of self.now }
+    {
+        if self.behind == 0 {
+            None
+        } else {
+            Some(self.next)
+        }
+    }
+}
+
+/// Puts a post into a slot, behind those that are no later, by the place of its first: the place of its first from now
+/// on.
+pub(super) fn insert(
+    nodes: &mut Vec<Node>,
+    free: &mut u32,
+    first: Option<u32>,
+    post: Post,
+) -> Result<u32, OutOfMemory>
+    requires { IsSlot nodes.old.items (post.due % 256) first }
+    ensures slot { IfOk result (λ place. IsSlot nodes.new.items (post.due % 256) (Some place)) }
+    ensures posts { IfOk result (λ place. slot_posts nodes.new.items (Some place) ≡ with_post (slot_posts nodes.old.items first) post) }
+    ensures others { (k : ℕ) → k ≢ post.due % 256 → KeepsSlot nodes.old.items nodes.new.items k }
+    ensures err { OnErr result (KeepsAll nodes.old.items nodes.new.items) }
+{
+    let behind = count_from(nodes, first).ok_or(OutOfMemory)?;
+    let place = free_place(nodes, *free)?;
+    *free = nodes[place as usize].next;
+    nodes[place as usize] = Node {
+        post: Some(post),
+        next: first.unwrap_or(NOWHERE),
+        behind,
+    };
+    settle(nodes, place, post);
+    Ok(place)
+}
+
+/// How many posts a slot has, by the place of its first: none where that doesn't fit.
+fn count_from(nodes: &[Node], first: Option<u32>) -> Option<u32>
+    requires { HasPlace nodes.now first }
+    ensures { IfSome result (λ count. count ≡ chain_len nodes.now first) }
+{
+    match first {
+        Some(place) => nodes[place as usize].behind.checked_add(1),
+        None => Some(0),
+    }
+}
+
+/// A place with no post: the one that is given, if it is free, or else a new one.
+fn free_place(nodes: &mut Vec<Node>, free: u32) -> Result<u32, OutOfMemory>
+    ensures free { IfOk result (λ place. IsFreeIn nodes.new.items place) }
+    ensures others { KeepsAll nodes.old.items nodes.new.items }
+{
+    if is_free(nodes, free) {
+        return Ok(free);
+    }
+    let Ok(place) = u32::try_from(nodes.len()) else {
+        return Err(OutOfMemory);
+    };
+    nodes.push(Node::free(NOWHERE))?;
+    Ok(place)
+}
+
+/// Whether the place is one of the nodes, with no post.
+fn is_free(nodes: &[Node], place: u32) -> bool
+    ensures { IsTrue result → IsFreeIn nodes.now place }
+{
+    match nodes.get(place as usize) {
+        Some(node) => node.post.is_none(),
+        None => false,
+    }
+}
+
+/// Puts a post into its place among those of a slot, the first of which is at hand: those that are no later each go one
+/// node forward, and the post goes behind them.
+fn settle(nodes: &mut [Node], first: u32, post: Post)
+    requires { IsSlot nodes.old (post.due % 256) (Some first) }
+    ensures slot { IsSlot nodes.new (post.due % 256) (Some first) }
+    ensures posts { slot_posts nodes.new (Some first) ≡ with_post (drop 1 (slot_posts nodes.old (Some first))) post }
+    ensures others { (k : ℕ) → k ≢ post.due % 256 → KeepsSlot nodes.old nodes.new k }
+{
+    let mut place = first;
+    while let Some(next) = next_no_later(nodes, place, &post) {
+        nodes[place as usize].post = nodes[next as usize].post;
+        place = next;
+    }
+    nodes[place as usize].post = Some(post);
+}
+
+/// The place of the next post of the slot, if there is one and it is no later.
+fn next_no_later(nodes: &[Node], place: u32, post: &Post) -> Option<u32>
+    requires { IsSlot nodes.now (post.now.due % 256) (Some place) }
+    ensures { MatchOption result (StandsBefore nodes.now place post.now) (IsNextNoLater nodes.now place post.now) }
+{
+    let next = nodes[place as usize].rest()?;
+    let other = nodes[next as usize].post?;
+    if is_later(&other, post) {
+        None
+    } else {
+        Some(next)
+    }
+}
