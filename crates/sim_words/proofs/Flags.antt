@@ -1,7 +1,7 @@
 -- The flags of the options that were given.
 use Rattle.std.proofs.Common.{◌≡◌, ℕ, ◌+◌, ◌<◌, ◌≤◌, Bool, true, false, List, [], ◌∷◌, length, slice_index_or, slice_set, refl, ap, arith, zero, suc}
 use Rattle.sim_words.specs.declared.options.OptionName.{OptionName}
-use Rattle.sim_words.specs.declared.options.OptionName.TheVariants.{Number, Mode, Format, Notes, Steps}
+use Rattle.sim_words.specs.declared.options.OptionName.TheVariants.{Number, Mode, Format, Notes, Check, Steps}
 use Rattle.sim_words.specs.declared.options.NumberOption.TheVariants.{Base, Memory, Cores, Sets, Ways, Buses, Snoop, MemoryDelay, Transfer, Occupancy, Slack, Interval, Limit, Quantum, Seed}
 use Rattle.sim_words.specs.Given.{is_given, flags_of, is_flagged}
 use Rattle.sim_words.specs.Options.{index_of}
@@ -27,6 +27,7 @@ flag_is before (Number Seed) = refl
 flag_is before Mode = refl
 flag_is before Format = refl
 flag_is before Notes = refl
+flag_is before Check = refl
 flag_is before Steps = refl
 
 -- the flags with an option more
@@ -50,10 +51,11 @@ flags_more before (Number Seed) = refl
 flags_more before Mode = refl
 flags_more before Format = refl
 flags_more before Notes = refl
+flags_more before Check = refl
 flags_more before Steps = refl
 
 -- an option's number is that of a flag
-pub index_small : (option : OptionName) → index_of option < 19
+pub index_small : (option : OptionName) → index_of option < 20
 index_small (Number Base) = omega arith
 index_small (Number Memory) = omega arith
 index_small (Number Cores) = omega arith
@@ -72,6 +74,7 @@ index_small (Number Seed) = omega arith
 index_small Mode = omega arith
 index_small Format = omega arith
 index_small Notes = omega arith
+index_small Check = omega arith
 index_small Steps = omega arith
 
 -- how many flags are set
@@ -86,11 +89,11 @@ count_le_length [] = omega arith
 count_le_length (true ∷ flags) = omega (arith, count_le_length flags)
 count_le_length (false ∷ flags) = omega (arith, count_le_length flags)
 
-pub count_le : (before : List OptionName) → set_count (flags_of before) ≤ 19
+pub count_le : (before : List OptionName) → set_count (flags_of before) ≤ 20
 unfolding flags_of
 count_le before = count_le_length (flags_of before)
 
-pub length_flags : (before : List OptionName) → length (flags_of before) ≡ 19
+pub length_flags : (before : List OptionName) → length (flags_of before) ≡ 20
 unfolding flags_of
 length_flags before = refl
 

@@ -30,7 +30,7 @@ start command words flags choices none same = record {
 }
 
 -- the place stays small
-pub place_small : {command : Command} {words : List (List ℕ)} {place : ℕ} {flags : List Bool} {choices : Choices} {before : List OptionName} → IsSoFar command words place flags choices before → place ≤ 39
+pub place_small : {command : Command} {words : List (List ℕ)} {place : ℕ} {flags : List Bool} {choices : Choices} {before : List OptionName} → IsSoFar command words place flags choices before → place ≤ 41
 place_small {place = place} {flags = flags} {before = before} so =
     omega (arith, so.counted, ap set_count so.flagged, count_le before)
 

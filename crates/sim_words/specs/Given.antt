@@ -10,7 +10,7 @@ is_given before option = list_any (λ other. index_of other == index_of option) 
 
 -- for each option, by its number, whether it is one of these
 unfoldable pub flags_of : List OptionName → List Bool
-flags_of before = map (λ index. list_any (λ other. index_of other == index) before) (range_with_len 0 19)
+flags_of before = map (λ index. list_any (λ other. index_of other == index) before) (range_with_len 0 20)
 
 -- the flag of an option is set
 abbrev pub is_flagged : List Bool → OptionName → Bool

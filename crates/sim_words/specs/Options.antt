@@ -4,7 +4,7 @@ use Rattle.std.specs.Bool.{then_some}
 use Rattle.sim_words.specs.declared.commands.Command.{Command}
 use Rattle.sim_words.specs.declared.commands.CommandSet.{CommandSet}
 use Rattle.sim_words.specs.declared.options.OptionName.{OptionName}
-use Rattle.sim_words.specs.declared.options.OptionName.TheVariants.{Number, Mode, Format, Notes, Steps}
+use Rattle.sim_words.specs.declared.options.OptionName.TheVariants.{Number, Mode, Format, Notes, Check, Steps}
 use Rattle.sim_words.specs.declared.options.NumberOption.TheVariants.{Base, Memory, Cores, Sets, Ways, Buses, Snoop, MemoryDelay, Transfer, Occupancy, Slack, Interval, Limit, Quantum, Seed}
 use Rattle.sim_words.specs.Commands.{has}
 use Rattle.sim_words.specs.Tables.{entry_in}
@@ -45,6 +45,7 @@ options =
     ∷ (codes "--mode", (Mode, run_gen))
     ∷ (codes "--format", (Format, run_gen))
     ∷ (codes "--notes", (Notes, run_gen))
+    ∷ (codes "--check", (Check, run_gen))
     ∷ (codes "--steps", (Steps, run_alone))
     ∷ (codes "--seed", (Number Seed, gen_alone))
     ∷ []
@@ -78,4 +79,5 @@ index_of (Number Seed) = 14
 index_of Mode = 15
 index_of Format = 16
 index_of Notes = 17
-index_of Steps = 18
+index_of Check = 18
+index_of Steps = 19

@@ -17,6 +17,7 @@ pub record OrderValue : Type 0 where
   pub mode : Mode
   pub format : Format
   pub notes : Bool
+  pub check : Bool
   pub seed : ℕ
   pub steps : List Step
 
@@ -27,6 +28,7 @@ order_value order = record {
   mode = order.mode;
   format = order.format;
   notes = order.notes;
+  check = order.check;
   seed = order.seed;
   steps = order.steps;
 }
@@ -39,6 +41,7 @@ order_value_in command numbers choices = record {
   mode = choices.mode;
   format = choices.format;
   notes = choices.notes;
+  check = choices.check;
   seed = choices.seed;
   steps = steps_of choices.steps;
 }

@@ -21,6 +21,7 @@ pub record Choices : Type 0 where
   pub mode : Mode
   pub format : Format
   pub notes : Bool
+  pub check : Bool
   pub seed : ℕ
   pub steps : List ℕ
 
@@ -46,6 +47,7 @@ defaults = record {
   mode = Lockstep;
   format = Text;
   notes = false;
+  check = false;
   seed = 1;
   steps = [];
 }
@@ -74,6 +76,7 @@ with_value (option.Number number) value c = with_number number (unwrap_or (numbe
 with_value option.Mode value c = record c { mode = unwrap_or (mode_of value) Lockstep }
 with_value option.Format value c = record c { format = unwrap_or (format_of value) Text }
 with_value option.Notes value c = record c { notes = unwrap_or (switch_of value) false }
+with_value option.Check value c = record c { check = unwrap_or (switch_of value) false }
 with_value option.Steps value c = record c { steps = value }
 
 -- the word isn't empty and begins with no `-`
@@ -91,6 +94,7 @@ abbrev pub is_word_for : OptionName → List ℕ → Bool
 is_word_for option.Mode value = is_some (mode_of value)
 is_word_for option.Format value = is_some (format_of value)
 is_word_for option.Notes value = is_some (switch_of value)
+is_word_for option.Check value = is_some (switch_of value)
 is_word_for _ value = true
 
 -- the value is steps, where the option takes them

@@ -33,11 +33,12 @@ pub(crate) enum OptionName {
     Mode,
     Format,
     Notes,
+    Check,
     Steps,
 }
 
 /// How many options there are.
-pub(crate) const OPTION_COUNT: usize = 19;
+pub(crate) const OPTION_COUNT: usize = 20;
 
 const EVERY_COMMAND: CommandSet = CommandSet {
     run: true,
@@ -94,6 +95,7 @@ static OPTIONS: [Row<(OptionName, CommandSet)>; OPTION_COUNT] = [
     (b"--mode", (OptionName::Mode, RUN_GEN)),
     (b"--format", (OptionName::Format, RUN_GEN)),
     (b"--notes", (OptionName::Notes, RUN_GEN)),
+    (b"--check", (OptionName::Check, RUN_GEN)),
     (b"--steps", (OptionName::Steps, RUN_ALONE)),
     (b"--seed", (OptionName::Number(NumberOption::Seed), GEN_ALONE)),
 ];
@@ -118,14 +120,15 @@ impl OptionName {
     /// The option's own number, below `OPTION_COUNT`.
     pub(crate) fn index(self) -> usize
         ensures index { result ≡ index_of self }
-        ensures bound { result < 19 }
+        ensures bound { result < 20 }
     {
         match self {
             OptionName::Number(number) => number as usize,
             OptionName::Mode => 15,
             OptionName::Format => 16,
             OptionName::Notes => 17,
-            OptionName::Steps => 18,
+            OptionName::Check => 18,
+            OptionName::Steps => 19,
         }
     }
 }

@@ -17,6 +17,8 @@ pub struct Order {
     pub format: Format,
     /// Whether the notes of the run follow the report.
     pub notes: bool,
+    /// Whether the lines that are not coherent follow the report.
+    pub check: bool,
     /// The seed of the generated program.
     pub seed: u32,
     /// The steps of the mode `script`.

@@ -54,6 +54,7 @@ pub fn read_words(alloc: Global, words: &[Arg]) -> Result<Order, WordError>
         mode: settings.mode,
         format: settings.format,
         notes: settings.notes,
+        check: settings.check,
         seed: settings.seed,
         steps,
     })

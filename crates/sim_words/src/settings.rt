@@ -17,6 +17,7 @@ pub(crate) struct Settings<'a> {
     pub(crate) mode: Mode,
     pub(crate) format: Format,
     pub(crate) notes: bool,
+    pub(crate) check: bool,
     pub(crate) seed: u32,
     pub(crate) steps: &'a [u8],
 }
@@ -26,7 +27,7 @@ impl<'a> Model for Settings<'a> {
 
     ghost Value = { Choices };
 
-    ghost view = { λ s. record { numbers = s.numbers; mode = s.mode; format = s.format; notes = s.notes; seed = s.seed; steps = s.steps.now } };
+    ghost view = { λ s. record { numbers = s.numbers; mode = s.mode; format = s.format; notes = s.notes; check = s.check; seed = s.seed; steps = s.steps.now } };
 }
 
 impl<'a> Settings<'a> {
@@ -40,6 +41,7 @@ impl<'a> Settings<'a> {
             mode: Mode::Lockstep,
             format: Format::Text,
             notes: false,
+            check: false,
             seed: 1,
             steps: &[],
         }
@@ -65,6 +67,7 @@ impl<'a> Settings<'a> {
             OptionName::Mode => self.mode = mode_of(value).ok_or(WordFault::Value { place })?,
             OptionName::Format => self.format = format_of(value).ok_or(WordFault::Value { place })?,
             OptionName::Notes => self.notes = switch_of(value).ok_or(WordFault::Value { place })?,
+            OptionName::Check => self.check = switch_of(value).ok_or(WordFault::Value { place })?,
             OptionName::Steps => {
                 if let Some(at) = wrong_item(value) {
                     return Err(WordFault::Steps { place, at });

@@ -64,7 +64,7 @@ const FORMS: [Refused; 25] = [
     (b"run --cores 2 --ways", WordFault::Form { place: 4 }),
 ];
 
-const VALUES: [Refused; 21] = [
+const VALUES: [Refused; 23] = [
     (b"run --cores +1", WordFault::Number { place: 2 }),
     (b"run --cores 0x1", WordFault::Number { place: 2 }),
     (b"run --cores 1_0", WordFault::Number { place: 2 }),
@@ -84,6 +84,8 @@ const VALUES: [Refused; 21] = [
     (b"run --notes yes", WordFault::Value { place: 2 }),
     (b"run --notes of", WordFault::Value { place: 2 }),
     (b"run --notes o\xff", WordFault::Value { place: 2 }),
+    (b"run --check yes", WordFault::Value { place: 2 }),
+    (b"gen --check On", WordFault::Value { place: 2 }),
     (b"run --cores 9 --ways x", WordFault::Number { place: 4 }),
     (
         b"run --cores 9",
@@ -413,7 +415,7 @@ struct Had {
 }
 
 #[rattlefmt::skip]
-const HAD: [Had; 19] = [
+const HAD: [Had; 20] = [
     Had { option: b"--base", value: b"4096", by: [true, true, true, true] },
     Had { option: b"--memory", value: b"131072", by: [true, true, false, true] },
     Had { option: b"--cores", value: b"2", by: [true, true, false, false] },
@@ -431,6 +433,7 @@ const HAD: [Had; 19] = [
     Had { option: b"--mode", value: b"bounded", by: [true, true, false, false] },
     Had { option: b"--format", value: b"json", by: [true, true, false, false] },
     Had { option: b"--notes", value: b"on", by: [true, true, false, false] },
+    Had { option: b"--check", value: b"on", by: [true, true, false, false] },
     Had { option: b"--steps", value: b"t0", by: [true, false, false, false] },
     Had { option: b"--seed", value: b"7", by: [false, true, false, false] },
 ];
@@ -444,7 +447,7 @@ fn fault_of(alloc: Global, words: &[&[u8]]) -> Option<WordError> {
 
 /// Each option of a run.
 const WHOLE_RUN: &[u8] =
-    b"run --base 4096 --memory 8192 --cores 2 --sets 8 --ways 2 --buses 2 --snoop 3 --memory-delay 9 --transfer 4 --occupancy 5 --slack 6 --interval 7 --limit 8 --quantum 9 --mode script --format json --notes on --steps t0";
+    b"run --base 4096 --memory 8192 --cores 2 --sets 8 --ways 2 --buses 2 --snoop 3 --memory-delay 9 --transfer 4 --occupancy 5 --slack 6 --interval 7 --limit 8 --quantum 9 --mode script --format json --notes on --check on --steps t0";
 
 #[test]
 fn all_options_of_a_run(rt: HostRuntime) -> Result<(), Fail> {
@@ -468,13 +471,14 @@ fn all_options_of_a_run(rt: HostRuntime) -> Result<(), Fail> {
     assert_eq!(rt; Some(order.config), Config::checked(numbers).ok());
     assert_eq!(rt; (order.mode, order.format), (Mode::Script, Format::Json));
     assert!(rt; order.notes);
+    assert!(rt; order.check);
     assert_eq!(rt; order.steps.as_slice(), [Step::Tick { core: 0 }].as_slice());
     let mut words = words_of(rt.alloc(), WHOLE_RUN)?;
     words.push(Arg::of(rt.alloc(), "--base")?)?;
     let fault = read_words(rt.alloc(), &words).err();
     assert_eq!(rt;
         fault,
-        Some(WordError::Fault(WordFault::Twice { place: 37 }))
+        Some(WordError::Fault(WordFault::Twice { place: 39 }))
     );
     Ok(())
 }
@@ -514,6 +518,7 @@ fn defaults_of_each_command(rt: HostRuntime) -> Result<(), Fail> {
         assert_eq!(rt; order.mode, Mode::Lockstep);
         assert_eq!(rt; order.format, Format::Text);
         assert!(rt; !order.notes);
+        assert!(rt; !order.check);
         assert_eq!(rt; order.seed, 1);
         assert!(rt; order.steps.is_empty());
     }
@@ -521,7 +526,7 @@ fn defaults_of_each_command(rt: HostRuntime) -> Result<(), Fail> {
 }
 
 #[test]
-fn modes_formats_and_notes(rt: HostRuntime) -> Result<(), Fail> {
+fn modes_formats_and_switches(rt: HostRuntime) -> Result<(), Fail> {
     let modes = [
         (b"lockstep".as_slice(), Mode::Lockstep),
         (b"quantum".as_slice(), Mode::Quantum),
@@ -541,6 +546,10 @@ fn modes_formats_and_notes(rt: HostRuntime) -> Result<(), Fail> {
     )?;
     assert_eq!(rt; (dump.format, dump.notes), (Format::Dump, false));
     assert_eq!(rt; dump.seed, 4294967295);
+    let checked = read_line(rt.alloc(), b"gen --check on --notes off")?;
+    assert_eq!(rt; (checked.check, checked.notes), (true, false));
+    let unchecked = read_line(rt.alloc(), b"run --check off --notes on")?;
+    assert_eq!(rt; (unchecked.check, unchecked.notes), (false, true));
     Ok(())
 }
 

@@ -1,4 +1,5 @@
 pub mod Answers
+pub mod Coherence
 pub mod Headline
 pub mod Inputs
 pub mod Outputs

@@ -5,6 +5,7 @@ ghost use Rattle.slack_base.specs.declared.faults.WordFault.{WordFault};
 ghost use Rattle.sim_words.specs.Reading.{words_of};
 ghost use Rattle.slacksim.specs.declared.answers.Answer.TheVariants as answers;
 ghost use Rattle.slacksim.specs.Answers.{HasOutput, IsWhole, answer_at, status_of};
+ghost use Rattle.slacksim.specs.Coherence.{IsExactRun, IsUnbroken};
 ghost use Rattle.slacksim.specs.Headline.{Delivers, IsSpeculation};
 ghost use Rattle.slacksim.specs.Inputs.{GivesTo, IsRefusal, RefusesAll, TookTooMany, most_bytes, refusal_of};
 ghost use Rattle.slacksim.specs.RunValues.{no_run, run_in, run_value};
@@ -36,6 +37,10 @@ pub fn simulate<R: Threads + Sync, S: Source, W: Sink, G: Gate + Sync>(
     // that was rolled back has the drift, of the state at which the interval began, and what the monitors recorded of it.
     ensures headline { HasOutput result.answer → IsOkAnd (words_of words.now) (λ order. IsSpeculation order →
         Delivers (record { may = G.may_hold gate.now; must = G.must_hold gate.now }) order result.answer (run_in result) (S.left source.old) (S.left source.new) (W.written sink.old) (W.written sink.new)) }
+
+    // In lockstep and speculative mode, and in pieces of at most the lookahead: no line of the machine at the end breaks, and
+    // where the check is asked for, the text says so.
+    ensures coherent { HasOutput result.answer → IsOkAnd (words_of words.now) (λ order. IsExactRun order → IsUnbroken order (run_in result)) }
 
     // Words with a fault are refused for it, and nothing else is refused so; then nothing is read or written.
     ensures bad_words { (fault : WordFault) → result.answer ≡ Answer.BadWords fault → words_of words.now ≡ Err fault }

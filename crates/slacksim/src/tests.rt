@@ -12,6 +12,7 @@ use std::thread::Threads;
 
 mod bounds;
 mod calls;
+mod checks;
 mod cycles;
 mod drifts;
 mod executables;

@@ -1,12 +1,13 @@
 //! The text of a run.
-ghost use Rattle.std.specs.Prelude.{◌≡◌, ◌+◌, ◌*◌, ◌^◌, ◌≤◌, ◌++◌, Some, IfOk, OnOk};
+ghost use Rattle.std.specs.Prelude.{◌≡◌, ◌+◌, ◌*◌, ◌^◌, ◌<◌, ◌≤◌, ◌++◌, Some, IfOk, OnOk};
 ghost use Rattle.slack_base.specs.Numbers.{numbers_of};
 ghost use Rattle.lockstep_model.specs.Views.{machine_of};
 ghost use Rattle.sim_words.specs.OrderValues.{order_value};
 ghost use Rattle.stat_report.specs.Dump.{lines_in};
 ghost use Rattle.slacksim.specs.RunValues.{run_value};
-ghost use Rattle.slacksim.specs.Texts.{notes_in, report_in, run_text, gen_line};
+ghost use Rattle.slacksim.specs.Texts.{coherence_in, notes_in, report_in, run_text, gen_line};
 
+use coherence_law::{breaks, coherence_text};
 use image_run::Ran;
 use lockstep_model::Machine;
 use plain_text::Text;
@@ -54,7 +55,26 @@ fn push_run(text: &mut Text, alloc: Global, order: &Order, ran: &Ran) -> Result<
 {
     let report = report_in(alloc, order, &ran.machine)?;
     text.push_bytes(report.as_slice())?;
+    push_coherence(text, alloc, order.check, &ran.machine)?;
     push_notes(text, alloc, order.notes, ran)
+}
+
+/// Appends the lines that are not coherent, where they are asked for.
+fn push_coherence(
+    text: &mut Text,
+    alloc: Global,
+    check: bool,
+    machine: &Machine,
+) -> Result<(), OutOfMemory>
+    requires { lines_in (machine_of machine.now).chans < 2 ^ 32 }
+    ensures { OnOk result (text.new ≡ text.old ++ coherence_in check (machine_of machine.now)) }
+{
+    if check {
+        let broken = breaks(alloc, machine)?;
+        let lines = coherence_text(alloc, &broken)?;
+        text.push_bytes(lines.as_slice())?;
+    }
+    Ok(())
 }
 
 /// Appends the notes, where they are asked for.

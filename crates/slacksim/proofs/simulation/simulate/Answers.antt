@@ -2,9 +2,12 @@ use Rattle.std.proofs.Common.{rules, ◌≡◌, ◌∙◌, Err, IsOkAnd, sym, ap
 use Rattle.io_edge.specs.Holds.{Holds}
 use Rattle.sim_words.specs.OrderValues.{order_value}
 use Rattle.slacksim.specs.declared.answers.Answer.TheVariants.{BadWords}
+use Rattle.slacksim.specs.Coherence.{IsExactRun, IsUnbroken}
 use Rattle.slacksim.specs.Headline.{Delivers, IsSpeculation}
 use Rattle.slacksim.specs.RunValues.{run_in}
 use Rattle.slacksim.specs.Writing.{Wrote}
+use Rattle.coherence_law.proofs.Starting.{no_breaks_of}
+use Rattle.slacksim.proofs.Exact.{unbroken}
 use Rattle.slacksim.proofs.Speculations.{delivers}
 use Rattle.slacksim.proofs.simulation.simulate.Goals as goal
 
@@ -47,3 +50,12 @@ returns-in-Ok-output_of-clause-headline g c = λ has.
     subst (λ r. IsOkAnd r (λ order. IsSpeculation order → Delivers holds order c.write_output.result.answer (run_in c.write_output.result)
     (g.S.Source.left c.args.source.now) (g.S.Source.left c.read_input.new.source) (g.W.Sink.written c.args.sink.now) (g.W.Sink.written c.write_output.new.sink))) (sym told)
     (λ is. delivers holds (order_value c.in-Ok.order) _ _ _ _ _ _ wrote is)
+
+pub returns-in-Ok-output_of-clause-coherent : goal.returns-in-Ok-output_of-clause-coherent
+returns-in-Ok-output_of-clause-coherent g c = λ has.
+    let told = c.in-Ok.ensures.order in
+    let holds : Holds = record { may = g.G.Gate.may_hold c.args.gate.now; must = g.G.Gate.must_hold c.args.gate.now } in
+    let wrote : Wrote holds (order_value c.in-Ok.order) c.write_output.result.answer (run_in c.write_output.result)
+    (g.S.Source.left c.args.source.now) (g.S.Source.left c.read_input.new.source) (g.W.Sink.written c.args.sink.now) (g.W.Sink.written c.write_output.new.sink) = search rules in
+    subst (λ r. IsOkAnd r (λ order. IsExactRun order → IsUnbroken order (run_in c.write_output.result))) (sym told)
+    (λ is. unbroken holds (order_value c.in-Ok.order) (no_breaks_of c.in-Ok.order.config) _ _ _ _ _ _ wrote is)
