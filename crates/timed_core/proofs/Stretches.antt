@@ -142,7 +142,7 @@ nothing_of Ready id h = refl
 nothing_of Rests id h = refl
 nothing_of (Read line) id h = absurd (true≢false h)
 nothing_of (ReadOwn line) id h = absurd (true≢false h)
-nothing_of (Put byte) id h = absurd (true≢false h)
+nothing_of (Put word) id h = absurd (true≢false h)
 
 -- a stretch that asks for nothing
 pub silent_stretch : (code : CodeValue) (number from : ℕ) (old new : HartValue) (end : Stretch) → from < end.next → asks end.outcome ≡ false → new.number ≡ old.number

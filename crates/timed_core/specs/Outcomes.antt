@@ -1,5 +1,5 @@
 -- What a cycle of a hart comes to.
-use Rattle.std.specs.Prelude.{◌≡◌, ℕ, Bool, true, false, List, slice_index, Option, Some, None, if◌then◌else◌}
+use Rattle.std.specs.Prelude.{◌≡◌, ℕ, ◌%◌, Bool, true, false, List, slice_index, Option, Some, None, if◌then◌else◌}
 use Rattle.slack_base.specs.declared.stamps.Id.{Id}
 use Rattle.slack_base.specs.declared.messages.Ask.{Ask}
 use Rattle.slack_base.specs.declared.messages.Ask.TheVariants as sent
@@ -33,7 +33,7 @@ ask_of Ready id = None
 ask_of Rests id = None
 ask_of (Read line) id = Some (sent.Read id line)
 ask_of (ReadOwn line) id = Some (sent.ReadOwn id line)
-ask_of (Put byte) id = Some (sent.Put id byte)
+ask_of (Put word) id = Some (sent.Put id (word % 256))
 
 -- what a step came to: the hart after it, of the same number; what is asked for with this id; and that the hart is ready
 -- where it says so

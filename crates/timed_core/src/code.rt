@@ -106,18 +106,18 @@ impl Code {
         if offset % 4 == 0 && number < self.kept.len() {
             return &self.kept[number];
         }
-        *room = self.decoded(address);
+        self.decode_into(address, room);
         room
     }
 
-    /// The instruction at an address, decoded of its word.
+    /// Puts the instruction at an address, decoded of its word, into this room.
     #[cold]
     #[inline(never)]
-    fn decoded(&self, address: u32) -> Kept
-        ensures value { instr_in result ≡ instr_at self.now address }
-        ensures ranges { IfSome (instr_in result) IsInRange }
+    fn decode_into(&self, address: u32, room: &mut Kept)
+        ensures value { instr_in room.new ≡ instr_at self.now address }
+        ensures ranges { IfSome (instr_in room.new) IsInRange }
     {
-        Kept::of(self.instr(address))
+        *room = Kept::of(self.instr(address));
     }
 
     /// How many bytes lie between the beginning of memory and an address: none where that is outside memory.

@@ -221,6 +221,7 @@ impl Hart {
     }
 
     /// Completes an instruction of several cycles, and goes on to the next.
+    #[inline(always)]
     fn go_on_late(&mut self, cost: u32) -> Outcome
         requires { 1 < cost }
         ensures after { self.new ≡ goes_on cost self.old }
@@ -233,6 +234,7 @@ impl Hart {
     }
 
     /// Completes an instruction of several cycles that writes a register, and goes on to the next.
+    #[inline(always)]
     fn give_late(&mut self, rd: u8, value: u32, cost: u32) -> Outcome
         requires register { rd < 32 }
         requires some { 1 < cost }
@@ -244,45 +246,40 @@ impl Hart {
     }
 
     /// Ends the hart by a trap.
-    fn trap(&mut self, cycle: u64, trap: Trap) -> Outcome
+    fn trap(&mut self, cycle: u64, trap: Trap)
         requires { cycle ≤ TOP }
-        ensures after { self.new ≡ trapped self.old cycle trap }
-        ensures outcome { result ≡ Outcome.Rests }
+        ensures { self.new ≡ trapped self.old cycle trap }
     {
         self.ended = CoreEnd::Trapped { at: cycle, trap };
-        Outcome::Rests
     }
 
     /// Ends the hart at a jump to no address of an instruction.
     #[cold]
     #[inline(never)]
-    fn trap_target(&mut self, cycle: u64, target: u32) -> Outcome
+    fn trap_target(&mut self, cycle: u64, target: u32)
         requires { cycle ≤ TOP }
-        ensures after { self.new ≡ trapped self.old cycle (Trap.Target target) }
-        ensures outcome { result ≡ Outcome.Rests }
+        ensures { self.new ≡ trapped self.old cycle (Trap.Target target) }
     {
-        self.trap(cycle, Trap::Target { target })
+        self.trap(cycle, Trap::Target { target });
     }
 
     /// Ends the hart at an access that isn't aligned.
     #[cold]
     #[inline(never)]
-    fn trap_misaligned(&mut self, cycle: u64, address: u32) -> Outcome
+    fn trap_misaligned(&mut self, cycle: u64, address: u32)
         requires { cycle ≤ TOP }
-        ensures after { self.new ≡ trapped self.old cycle (Trap.Misaligned address) }
-        ensures outcome { result ≡ Outcome.Rests }
+        ensures { self.new ≡ trapped self.old cycle (Trap.Misaligned address) }
     {
-        self.trap(cycle, Trap::Misaligned { address })
+        self.trap(cycle, Trap::Misaligned { address });
     }
 
     /// Ends the hart at an access outside memory.
     #[cold]
     #[inline(never)]
-    fn trap_outside(&mut self, cycle: u64, address: u32) -> Outcome
+    fn trap_outside(&mut self, cycle: u64, address: u32)
         requires { cycle ≤ TOP }
-        ensures after { self.new ≡ trapped self.old cycle (Trap.Outside address) }
-        ensures outcome { result ≡ Outcome.Rests }
+        ensures { self.new ≡ trapped self.old cycle (Trap.Outside address) }
     {
-        self.trap(cycle, Trap::Outside { address })
+        self.trap(cycle, Trap::Outside { address });
     }
 }

@@ -15,8 +15,8 @@ pub enum Outcome {
     Read { line: u32 },
     /// A line, to be owned.
     ReadOwn { line: u32 },
-    /// A byte goes to the console.
-    Put { byte: u8 },
+    /// The low byte of this word goes to the console.
+    Put { word: u32 },
 }
 
 impl Outcome {
@@ -43,6 +43,7 @@ impl Outcome {
     }
 
     /// The ask with this id, if something is asked for.
+    #[inline(always)]
     pub fn ask(self, id: Id) -> Option<Ask>
         ensures { result ≡ ask_of self id }
     {
@@ -50,7 +51,10 @@ impl Outcome {
             Outcome::Ready | Outcome::Rests => None,
             Outcome::Read { line } => Some(Ask::Read { id, line }),
             Outcome::ReadOwn { line } => Some(Ask::ReadOwn { id, line }),
-            Outcome::Put { byte } => Some(Ask::Put { id, byte }),
+            Outcome::Put { word } => Some(Ask::Put {
+                id,
+                byte: (word % 256) as u8,
+            }),
         }
     }
 }

@@ -22,7 +22,8 @@ impl Hart {
         let mut room = Kept::Nothing;
         let kept = code.kept(self.pc, &mut room);
         if kept.is_nothing() {
-            return self.refuse(code, cycle);
+            self.refuse(code, cycle);
+            return Outcome::Rests;
         }
         self.execute(code, kept, cycle)
     }
@@ -31,15 +32,15 @@ impl Hart {
     #[cold]
     #[inline(never)]
     #[tactic(auto, unfolding(crate::specs::Ticks::fetched, crate::specs::Ticks::decoded))]
-    fn refuse(&mut self, code: &Code, cycle: u64) -> Outcome
+    fn refuse(&mut self, code: &Code, cycle: u64)
         requires top { cycle ≤ TOP }
         requires none { instr_at code.now self.old.pc ≡ None }
-        ensures { DoesAt (λ id. fetched code.now (word_at code.now self.old.pc) id self.old) cycle self.old self.new result }
+        ensures { DoesAt (λ id. fetched code.now (word_at code.now self.old.pc) id self.old) cycle self.old self.new Outcome.Rests }
     {
         let trap = match code.word(self.pc) {
             Some(bits) => Trap::Illegal { bits },
             None => Trap::Fetch { pc: self.pc },
         };
-        self.trap(cycle, trap)
+        self.trap(cycle, trap);
     }
 }

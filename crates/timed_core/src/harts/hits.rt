@@ -38,10 +38,12 @@ impl Hart {
         ensures { DoesAt (λ id. accessed code.now access address 1 id self.old) cycle self.old self.new result }
     {
         if !access.is_aligned(address) {
-            return self.trap_misaligned(cycle, address);
+            self.trap_misaligned(cycle, address);
+            return Outcome::Rests;
         }
         let Some(offset) = code.offset(address) else {
-            return self.trap_outside(cycle, address);
+            self.trap_outside(cycle, address);
+            return Outcome::Rests;
         };
         self.try_access(access, offset / 16, address, cycle)
     }
@@ -67,6 +69,7 @@ impl Hart {
     }
 
     /// An SC that fails gives 1, and loses the reservation.
+    #[inline(always)]
     fn fail(&mut self, rd: u8) -> Outcome
         requires free { self.old.busy ≡ 0 }
         requires register { rd < 32 }
@@ -156,6 +159,7 @@ impl Hart {
     }
 
     /// Waits for the line, which the access asks for.
+    #[inline(always)]
     fn miss(&mut self, access: Access, line: u32) -> Outcome
         ensures { (cycle : ℕ) → DoesAt (λ id. missed access id line self.old) cycle self.old self.new result }
     {

@@ -6,6 +6,7 @@ ghost use Rattle.rv_decode.specs.Ranges.{IsInRange};
 ghost use Rattle.timed_core.specs.Code.{CodeValue};
 ghost use Rattle.timed_core.specs.Effects.{even_of, goes_to};
 ghost use Rattle.timed_core.specs.declared.effects.Effect.TheVariants.{Jump};
+ghost use Rattle.timed_core.specs.Cores.{trapped};
 ghost use Rattle.timed_core.specs.Kept.{instr_in};
 ghost use Rattle.timed_core.specs.Outcomes.{IsReady, DoesAt, branching, executed};
 ghost use Rattle.timed_core.specs.Ticks.{called, performed};
@@ -89,7 +90,7 @@ impl Hart {
             Kept::Amo(op, rd, rs1, rs2, _, _) => self.access(code, Access::Amo { op, rd, operand: self.x(rs2) }, self.x(rs1), cycle),
             Kept::Fence(_) => self.go_on(),
             Kept::Ecall => self.call(cycle),
-            Kept::Ebreak => self.trap(cycle, Trap::Break { pc: self.pc }),
+            Kept::Ebreak => self.trap_break(cycle),
         }
     }
 
@@ -103,7 +104,8 @@ impl Hart {
         ensures { (code : CodeValue) → DoesAt (λ id. performed code (goes_to target (Jump rd target)) 1 id self.old) cycle self.old self.new result }
     {
         if target % 4 != 0 {
-            return self.trap_target(cycle, target);
+            self.trap_target(cycle, target);
+            return Outcome::Rests;
         }
         self.write(rd, self.pc.wrapping_add(4));
         self.complete(target)
@@ -122,14 +124,14 @@ impl Hart {
             return self.go_on();
         }
         if target % 4 != 0 {
-            return self.trap_target(cycle, target);
+            self.trap_target(cycle, target);
+            return Outcome::Rests;
         }
         self.complete(target)
     }
 
     /// Calls the service that x17 names.
-    #[cold]
-    #[inline(never)]
+    #[inline(always)]
     #[tactic(auto, unfolding(crate::specs::Ticks::called))]
     fn call(&mut self, cycle: u64) -> Outcome
         requires { cycle ≤ TOP }
@@ -139,12 +141,11 @@ impl Hart {
         let argument = self.registers[10];
         if service == 1 {
             self.go_on_late(4);
-            return Outcome::Put {
-                byte: (argument % 256) as u8,
-            };
+            return Outcome::Put { word: argument };
         }
         if service != 93 {
-            return self.trap(cycle, Trap::Call { number: service });
+            self.trap_call(cycle, service);
+            return Outcome::Rests;
         }
         self.go_on_late(4);
         self.ended = CoreEnd::Exit {
@@ -152,5 +153,26 @@ impl Hart {
             code: argument,
         };
         Outcome::Rests
+    }
+
+    /// Ends the hart at EBREAK.
+    #[inline(always)]
+    fn trap_break(&mut self, cycle: u64) -> Outcome
+        requires { cycle ≤ TOP }
+        ensures after { self.new ≡ trapped self.old cycle (Trap.Break self.old.pc) }
+        ensures outcome { result ≡ Outcome.Rests }
+    {
+        self.trap(cycle, Trap::Break { pc: self.pc });
+        Outcome::Rests
+    }
+
+    /// Ends the hart at a call of a service that there isn't.
+    #[cold]
+    #[inline(never)]
+    fn trap_call(&mut self, cycle: u64, number: u32)
+        requires { cycle ≤ TOP }
+        ensures { self.new ≡ trapped self.old cycle (Trap.Call number) }
+    {
+        self.trap(cycle, Trap::Call { number });
     }
 }

@@ -119,16 +119,12 @@ impl Hart {
         ensures stretch { (number : ℕ) → IsStretch code.now number from self.old self.new result }
     {
         let mut next = from;
-        while next < until {
+        loop {
             let outcome = self.fetch(code, next);
             next += 1;
-            if !outcome.is_ready() {
+            if !outcome.is_ready() || next == until {
                 return Stretch { next, outcome };
             }
-        }
-        Stretch {
-            next,
-            outcome: Outcome::Ready,
         }
     }
 }

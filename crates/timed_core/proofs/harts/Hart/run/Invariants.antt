@@ -1,17 +1,17 @@
-use Rattle.std.proofs.Common.{◌≡◌, ◌-◌, ◌≤◌, ℕ, []}
+use Rattle.std.proofs.Common.{◌≡◌, ◌-◌, ◌<◌, ◌≤◌, ℕ, []}
 use Rattle.timed_core.specs.Outcomes.{IsReady}
 use Rattle.timed_core.specs.Stretches.{stretch}
 use Rattle.timed_core.proofs.harts.Hart.run.Given as goal
 
 -- so far nothing was asked for
-abbrev pub invariant-loop-next : goal.invariant-loop-next
-invariant-loop-next l = record {
+abbrev pub invariant-loop-outcome : goal.invariant-loop-outcome
+invariant-loop-outcome l = record {
   begun : l.from ≤ l.next;
-  within : l.next ≤ l.until;
+  within : l.next < l.until;
   ready : IsReady l.self;
   same : l.self.number ≡ l.initial.self.number;
   silent : (number : ℕ) → stretch l.code number l.from (l.next - l.from) l.initial.self ≡ (l.self, []);
 }
 
-abbrev pub decreases-loop-next : goal.decreases-loop-next
-decreases-loop-next l = l.until - l.next
+abbrev pub decreases-loop-outcome : goal.decreases-loop-outcome
+decreases-loop-outcome l = l.until - l.next
