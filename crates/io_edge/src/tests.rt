@@ -82,3 +82,48 @@ fn offers_all_that_is_left(rt: HostRuntime) -> Result<(), Fail> {
     assert_eq!(rt; sink.lengths(), [12, 7, 2].as_slice());
     Ok(())
 }
+
+const TEXT: &[u8] = b"a short text";
+
+/// A source of so many bytes a call, which fails at each call that is made, and at the one behind the last.
+#[test]
+fn a_source_that_fails_at_each_call(rt: HostRuntime) -> Result<(), Fail> {
+    for (step, calls) in [(1, 13), (5, 4), (6, 3), (11, 3), (12, 2), (100, 2)] {
+        assert!(rt; step > 0 && step <= 100 && calls < 20);
+        for failing in 1..calls + 2 {
+            let bytes = Row::of(Vec::from_slice(rt.alloc(), TEXT)?);
+            let fails = numbers(rt.alloc(), &[failing])?;
+            let mut source = MemorySource::make(bytes, step, fails);
+            let read = read_all(rt.alloc(), &mut source, 12);
+            if failing <= calls {
+                assert_eq!(rt; read.err(), Some(ReadAllError::Fault));
+            } else {
+                assert_eq!(rt; read?.as_slice(), TEXT);
+            }
+        }
+    }
+    Ok(())
+}
+
+/// A sink of so many bytes a call, which fails at each call that is made, and at the one behind the last. What was written
+/// before it stays.
+#[test]
+fn a_sink_that_fails_at_each_call(rt: HostRuntime) -> Result<(), Fail> {
+    for (step, calls) in [(1, 12), (5, 3), (6, 2), (11, 2), (12, 1), (100, 1)] {
+        assert!(rt; step > 0 && step <= 100 && calls < 20);
+        for failing in 1..calls + 2 {
+            let fails = numbers(rt.alloc(), &[failing])?;
+            let mut sink = MemorySink::make(rt.alloc(), 100, step, fails)?;
+            let wrote = write_all(&mut sink, TEXT);
+            if failing <= calls {
+                assert_eq!(rt; wrote, Err(Failed));
+                let before = (failing - 1) * u64::from(step);
+                assert_eq!(rt; Some(sink.written()), TEXT.get(..before as usize));
+            } else {
+                assert_eq!(rt; wrote, Ok(()));
+                assert_eq!(rt; sink.written(), TEXT);
+            }
+        }
+    }
+    Ok(())
+}

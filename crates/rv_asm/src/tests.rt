@@ -1,6 +1,8 @@
 //! Words as LLVM's assembler gives them (`llvm-mc -triple=riscv32 -mattr=+m,+a`), and the faults of texts.
+ghost use Rattle.std.specs.Prelude.{◌<◌, ◌^◌, length};
+
 use super::*;
-use slack_base::{AsmFault, AsmKind, Image};
+use slack_base::{AsmFault, AsmKind, Image, OutOfMemory};
 use std::alloc::Global;
 use std::test::Fail;
 
@@ -454,5 +456,81 @@ fn image_of_labels_alone(rt: HostRuntime) -> Result<(), Fail> {
     let image = assemble(rt.alloc(), b"a: # none\n\nb:", 4294967295)?;
     let none: &[u8] = &[];
     assert_eq!(rt; parts(&image), Some((4294967295, 4294967295, 0, none)));
+    Ok(())
+}
+
+/// The first fault of a text.
+fn fault_of(alloc: Global, text: &[u8]) -> Result<Option<AsmFault>, OutOfMemory>
+    requires { length text.now < 2 ^ 32 }
+{
+    match assemble(alloc, text, 0) {
+        Ok(_) => Ok(None),
+        Err(AsmError::Fault(fault)) => Ok(Some(fault)),
+        Err(AsmError::OutOfMemory) => Err(OutOfMemory),
+    }
+}
+
+/// From so many bytes on: whether a text that is cut has a fault, and its line and kind.
+type Cut = (usize, Option<(u32, AsmKind)>);
+
+/// Texts that are cut at each byte.
+const CUTS: [(&'static [u8], &'static [Cut]); 3] = [
+    (
+        EXIT,
+        &[
+            (0, None),
+            (1, Some((1, AsmKind::Mnemonic))),
+            // `add` is one too
+            (3, Some((1, AsmKind::Operand))),
+            (14, None),
+            (17, Some((2, AsmKind::Mnemonic))),
+            (19, Some((2, AsmKind::Operand))),
+            (30, None),
+            (32, Some((3, AsmKind::Mnemonic))),
+            (36, None),
+        ],
+    ),
+    (
+        b"j on # x\non: lw x5, -4(x8)\n",
+        &[
+            (0, None),
+            (1, Some((1, AsmKind::Operand))),
+            // until the second line has its label
+            (3, Some((1, AsmKind::Label))),
+            (12, None),
+            (14, Some((2, AsmKind::Mnemonic))),
+            (15, Some((2, AsmKind::Operand))),
+            (26, None),
+        ],
+    ),
+    (
+        b"nop\r\n.word 0x1f\n",
+        &[
+            (0, None),
+            (1, Some((1, AsmKind::Mnemonic))),
+            (3, None),
+            (4, Some((1, AsmKind::Byte))),
+            (5, None),
+            (6, Some((2, AsmKind::Mnemonic))),
+            (10, Some((2, AsmKind::Operand))),
+            (12, None),
+            (13, Some((2, AsmKind::Operand))),
+            (14, None),
+        ],
+    ),
+];
+
+#[test]
+fn fronts_of_texts(rt: HostRuntime) -> Result<(), Fail> {
+    for (text, cuts) in &CUTS {
+        assert!(rt; text.len() < 100);
+        for have in 0..=text.len() {
+            let wanted = cuts.iter().rev().find(|(from, _)| *from <= have);
+            let (_, fault) = wanted.ok_or("the first cut is at no byte")?;
+            let found = fault_of(rt.alloc(), &text[..have])?;
+            let found = found.map(|fault| (fault.line, fault.kind));
+            assert_eq!(rt; found, *fault, "{have} bytes");
+        }
+    }
     Ok(())
 }

@@ -2,6 +2,7 @@
 
 mod elf_headers;
 mod elf_pieces;
+mod every_field;
 mod flat_files;
 mod linked_files;
 
