@@ -1,14 +1,14 @@
 -- Chains of nodes, and what a change of one node does to them.
-use Rattle.std.proofs.Common.{◌≡◌, ◌≢◌, ◌∙◌, ℕ, ◌%◌, ◌+◌, ◌<◌, ◌≤◌, zero, suc, true, false, List, [], ◌∷◌, ◌++◌, drop, take, append-nil, map, length, get_or, set, refl, sym, ap, subst, arith, inl, inr, None, Some, Option, IsSomeAnd, ap₂, add-one, ◌-◌, ◌==◌, if◌then◌else◌}
+use Rattle.std.proofs.Common.{◌≡◌, ◌≢◌, ◌∙◌, ℕ, ◌%◌, ◌+◌, ◌<◌, ◌≤◌, zero, suc, true, false, List, [], ◌∷◌, ◌++◌, drop, take, append-nil, length, set, refl, sym, ap, subst, arith, inl, inr, None, Some, Option, IsSomeAnd, add-one, ◌-◌, ◌==◌, if◌then◌else◌}
 use Rattle.std.specs.Option.{option_to_list, unwrap_or}
-use Rattle.std.proofs.lemmas.Bool.{cases_eq, cases_lt}
+use Rattle.std.proofs.lemmas.Bool.{cases_lt}
 use Rattle.std.proofs.lemmas.Bool.Decides.{nat_tests}
 use Rattle.std.proofs.Math.ListN.{get_or-eq_default}
 use Rattle.std.proofs.lemmas.List.{get_or-set_same, get_or-set_other, drop_all, take_all}
 use Rattle.slack_base.specs.declared.messages.Post.{Post}
 use Rattle.slack_base.specs.Inboxes.{is_later, with_post}
 use Rattle.stamp_queue.specs.declared.inbox.nodes.Node.{Node}
-use Rattle.stamp_queue.specs.Slots.{blank, node_at, posts_from, slot_posts, HoldsPost, IsChain, IsSlot, chain_len, rest_of, KeepsSlot, StandsBefore, IsNextNoLater, IsFreeIn, KeepsAll, AreSlots}
+use Rattle.stamp_queue.specs.Slots.{blank, node_at, posts_from, slot_posts, HoldsPost, IsChain, IsSlot, chain_len, rest_of, KeepsSlot, StandsBefore, IsNextNoLater, IsFreeIn, KeepsAll}
 use Rattle.stamp_queue.proofs.Places.{with_post-pass, with_post-stop}
 
 -- the post that a place holds

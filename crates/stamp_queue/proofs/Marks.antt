@@ -1,12 +1,12 @@
 -- The marks of the slots of a wheel, as bits of four words.
-use Rattle.std.proofs.Common.{◌≡◌, ◌≢◌, ◌∙◌, ◌⊎◌, ℕ, ◌+◌, ◌-◌, ◌*◌, ◌/◌, ◌%◌, ◌^◌, ◌<◌, ◌≤◌, List, length, get_or, set, refl, sym, ap, arith, w64, bit_and, bit_or, replicate, min, inl, inr}
+use Rattle.std.proofs.Common.{◌≡◌, ◌≢◌, ◌∙◌, ℕ, ◌+◌, ◌-◌, ◌*◌, ◌/◌, ◌%◌, ◌^◌, ◌<◌, ◌≤◌, List, length, get_or, set, sym, ap, arith, w64, bit_and, bit_or, replicate, min, inl, inr}
 use Rattle.std.proofs.lemmas.Bool.{cases_eq, cases_lt}
 use Rattle.std.proofs.lemmas.List.{get_or-set_same, get_or-set_other, get_or-replicate}
 use Rattle.std.proofs.lemmas.Nat.Bits.{bit_at-zero, bit_at_set_same, bit_at_set_other, bit_at_clear_same, bit_at_clear_other, ones_shl, bit_at_and, bit_at_mask_inside, bit_at_mask_below, bit_at-lt}
 use Rattle.std.specs.Int.{bit_at, bit_not}
 use Rattle.stamp_queue.specs.declared.inbox.occupied.Occupied.{Occupied}
 use Rattle.stamp_queue.specs.Bits.{IsLowestBit}
-use Rattle.stamp_queue.specs.Occupied.{mark_at, NoneWithin, IsNextFrom, IsNextRound, round}
+use Rattle.stamp_queue.specs.Occupied.{mark_at, NoneWithin, IsNextFrom}
 
 -- the mark of a slot whose word is written
 here_from : (words : List ℕ) (slot v : ℕ) → length words ≡ 4 → slot < 256 → bit_at (get_or (set words (slot / 64) v) (slot / 64) 0) (slot % 64) ≡ bit_at v (slot % 64)

@@ -1,10 +1,10 @@
 -- Where a post is put into a list in order.
-use Rattle.std.proofs.Common.{◌≡◌, ℕ, ◌<◌, ◌≤◌, true, false, cond, List, [], ◌∷◌, Some, refl, sym, ◌∙◌, ap, arith, slice_get, subst}
+use Rattle.std.proofs.Common.{◌≡◌, true, false, cond, List, [], ◌∷◌, refl, sym, ◌∙◌, ap}
 use Rattle.std.specs.List.{AllByRecursion}
 use Rattle.slack_base.specs.declared.messages.Post.{Post}
 use Rattle.slack_base.specs.Inboxes.{is_later, with_post}
 use Rattle.stamp_queue.specs.Inbox.{IsInOrder, IsPutBetween}
-use Rattle.stamp_queue.proofs.Order.{no_later_than, no_later_back, due_no_later}
+use Rattle.stamp_queue.proofs.Order.{no_later_than, no_later_back}
 
 -- each of the list
 pub weaker : (P Q : Post → Type 0) → ((p : Post) → P p → Q p) → (inbox : List Post) → AllByRecursion P inbox → AllByRecursion Q inbox

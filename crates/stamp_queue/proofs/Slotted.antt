@@ -1,5 +1,5 @@
 -- The slots of a wheel as a list of their posts.
-use Rattle.std.proofs.Common.{◌≡◌, ◌≢◌, ◌∙◌, ℕ, ◌<◌, zero, suc, false, true, List, [], ◌∷◌, ◌++◌, drop, map, length, get_or, set, refl, sym, ap, ap₂, subst, arith, inl, inr, None, Some, Option}
+use Rattle.std.proofs.Common.{◌≡◌, ◌≢◌, ◌∙◌, ℕ, ◌<◌, zero, suc, false, List, [], ◌∷◌, drop, map, length, get_or, set, refl, sym, ap, ap₂, subst, arith, inl, inr, None, Some, Option}
 use Rattle.std.specs.Option.{is_some}
 use Rattle.std.proofs.Math.ListN.{get_or-map}
 use Rattle.std.proofs.lemmas.Bool.{cases_eq, false≢true}

@@ -1,5 +1,5 @@
 -- The slots of a wheel as one list in order.
-use Rattle.std.proofs.Common.{◌≡◌, ◌≢◌, ◌∙◌, ◌⊎◌, ℕ, ◌+◌, ◌-◌, ◌%◌, ◌^◌, ◌<◌, ◌≤◌, max, min, false, true, List, [], ◌∷◌, length, get_or, set, refl, sym, ap, subst, arith, inl, inr, cond, replicate}
+use Rattle.std.proofs.Common.{◌≡◌, ◌≢◌, ◌∙◌, ◌⊎◌, ℕ, ◌+◌, ◌-◌, ◌%◌, ◌^◌, ◌<◌, ◌≤◌, max, min, false, true, List, [], ◌∷◌, length, set, refl, sym, ap, subst, arith, inl, inr, cond, replicate}
 use Rattle.std.specs.List.{AllByRecursion}
 use Rattle.std.proofs.Math.ListN.{get_or-eq_default}
 use Rattle.std.proofs.lemmas.Bool.{cases_eq, cases_lt}
@@ -8,7 +8,6 @@ use Rattle.slack_base.specs.declared.messages.Post.{Post}
 use Rattle.slack_base.specs.Inboxes.{is_later, with_post}
 use Rattle.stamp_queue.specs.declared.inbox.occupied.Occupied.{Occupied}
 use Rattle.stamp_queue.specs.Inbox.{IsInOrder, next_due}
-use Rattle.stamp_queue.specs.Merged.{with_slots}
 use Rattle.stamp_queue.specs.Occupied.{mark_at, round, IsNextRound, NoneWithin, KeepsOthers}
 use Rattle.stamp_queue.specs.Wheel.{posts_in, wheel_posts, BelongsTo, TakesFirst, AreHeld, IsMarked, AreMarked, IsWheel}
 use Rattle.stamp_queue.proofs.Places.{weaker, both_weaker, all_with, in_order-with_post}

@@ -1,5 +1,5 @@
 -- An inbox as the posts on its wheel and those off it.
-use Rattle.std.proofs.Common.{◌≡◌, ◌≢◌, ◌∙◌, ℕ, ◌+◌, ◌-◌, ◌^◌, ◌<◌, ◌≤◌, min, true, false, Bool, List, [], ◌∷◌, length, inl, inr, refl, sym, ap, subst, arith}
+use Rattle.std.proofs.Common.{◌≡◌, ◌≢◌, ◌∙◌, ℕ, ◌+◌, ◌^◌, ◌<◌, ◌≤◌, min, true, false, List, [], ◌∷◌, length, inl, inr, refl, sym, ap, subst, arith}
 use Rattle.std.specs.List.{AllByRecursion}
 use Rattle.std.proofs.lemmas.Bool.{cases_lt}
 use Rattle.slack_base.specs.declared.messages.Post.{Post}
@@ -7,7 +7,7 @@ use Rattle.slack_base.specs.Inboxes.{is_later, with_post}
 use Rattle.stamp_queue.specs.Inbox.{IsInOrder, next_due}
 use Rattle.stamp_queue.specs.Merged.{with_posts}
 use Rattle.stamp_queue.specs.OffWheel.{NoneHasDue}
-use Rattle.stamp_queue.specs.Whole.{IsSplit, IsWhole, IsPut, IsTaken, IsNoneTaken}
+use Rattle.stamp_queue.specs.Whole.{IsSplit, IsWhole, IsPut, IsTaken}
 use Rattle.stamp_queue.proofs.Order.{no_later_back, due_no_later}
 use Rattle.stamp_queue.proofs.Places.{weaker, both_weaker, all_with, in_order-with_post}
 use Rattle.stamp_queue.proofs.Merged.{later_due, put_among, past_dues, stays_first, put_first, in_order-with_posts, all_with_posts, all_of_with_posts, none_sooner, next_due-with_post, next_due-with_posts, length-with_post}

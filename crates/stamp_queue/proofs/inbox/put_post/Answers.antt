@@ -1,4 +1,4 @@
-use Rattle.std.proofs.Common.{◌≡◌, ◌≢◌, ◌∙◌, MatchBool, OnOk, Ok, Err, Result, subst, sym}
+use Rattle.std.proofs.Common.{◌≡◌, ◌≢◌, OnOk, Ok, Err, Result, subst, sym}
 use Rattle.std.specs.List.{AllByRecursion}
 use Rattle.slack_base.specs.Inboxes.{with_post}
 use Rattle.stamp_queue.specs.OffWheel.{NoneHasDue}

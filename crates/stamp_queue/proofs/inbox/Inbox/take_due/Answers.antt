@@ -1,4 +1,4 @@
-use Rattle.std.proofs.Common.{◌≡◌, ◌∙◌, ◌∷◌, ◌+◌, ◌-◌, ◌<◌, arith, refl, subst}
+use Rattle.std.proofs.Common.{◌∷◌, ◌<◌, arith, refl, subst}
 use Rattle.std.specs.List.{AllByRecursion}
 use Rattle.stamp_queue.specs.Inbox.{IsInOrder}
 use Rattle.stamp_queue.specs.Merged.{with_posts}

@@ -1,4 +1,4 @@
-use Rattle.std.proofs.Common.{◌≡◌, ◌≢◌, ◌∙◌, ◌%◌, ◌++◌, List, length, take, drop, refl, sym, ap, subst, rules, Some, arith}
+use Rattle.std.proofs.Common.{◌≡◌, ◌∙◌, ◌%◌, ◌++◌, List, length, take, drop, refl, sym, ap, subst, Some}
 use Rattle.slack_base.specs.Inboxes.{with_post}
 use Rattle.stamp_queue.specs.declared.inbox.nodes.Node.{Node}
 use Rattle.stamp_queue.specs.Slots.{slot_posts, IsSlot, KeepsSlot, chain_len}

@@ -1,5 +1,5 @@
-use Rattle.std.proofs.Common.{◌∙◌, sym, refl}
-use Rattle.stamp_queue.proofs.Chains.{rest_within, stands_before, stands_last, rest_held}
+use Rattle.std.proofs.Common.{◌∙◌, sym}
+use Rattle.stamp_queue.proofs.Chains.{rest_within, stands_before, rest_held}
 use Rattle.stamp_queue.proofs.inbox.nodes.next_no_later.Goals as goal
 
 pub bounds-nodes-next : goal.bounds-nodes-next

@@ -1,4 +1,4 @@
-use Rattle.std.proofs.Common.{◌≡◌, ◌≢◌, ℕ, ◌%◌, drop, Some}
+use Rattle.std.proofs.Common.{◌≢◌, ℕ, ◌%◌, drop, Some}
 use Rattle.slack_base.specs.Inboxes.{with_post}
 use Rattle.stamp_queue.specs.Slots.{node_at, slot_posts, IsSlot, KeepsSlot}
 use Rattle.stamp_queue.proofs.Chains.{Leads}

@@ -1,4 +1,4 @@
-use Rattle.std.proofs.Common.{MatchBool, subst, sym}
+use Rattle.std.proofs.Common.{MatchBool, subst}
 use Rattle.stamp_queue.specs.OffWheel.{NoneHasDue}
 use Rattle.stamp_queue.proofs.ByDue.{has_due}
 use Rattle.stamp_queue.proofs.inbox.off_wheel.OffWheel.has.Goals as goal

@@ -1,6 +1,6 @@
-use Rattle.std.proofs.Common.{◌≡◌, ◌∙◌, [], ◌∷◌, ap, List, nat_cmp, Some, None, subst, sym}
+use Rattle.std.proofs.Common.{◌≡◌, ◌∙◌, [], ◌∷◌, ap, nat_cmp, subst, sym}
 use Rattle.std.specs.BTreeMap.{is_at, insert_entry}
-use Rattle.std.specs.Map.{lookup, set_value}
+use Rattle.std.specs.Map.{set_value}
 use Rattle.std.proofs.lemmas.Result.{err_from_is_err_and}
 use Rattle.slack_base.specs.Inboxes.{with_post}
 use Rattle.stamp_queue.specs.OffWheel.{all_posts, AreEntries}

@@ -1,4 +1,4 @@
-use Rattle.std.proofs.Common.{◌≡◌, ◌∙◌, ◌%◌, ◌<◌, ℕ, arith, get_or, length, None, rules, set, Some, subst, sym}
+use Rattle.std.proofs.Common.{◌≡◌, ◌∙◌, ◌%◌, arith, get_or, length, None, rules, set, Some, subst, sym}
 use Rattle.std.proofs.lemmas.Result.{err_from_is_err_and}
 use Rattle.stamp_queue.specs.Slots.{IsSlot, AreSlots}
 use Rattle.stamp_queue.proofs.Slotted.{slots_changed, slots_same, posts_same, put_shows}

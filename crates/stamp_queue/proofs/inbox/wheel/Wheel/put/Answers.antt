@@ -1,4 +1,4 @@
-use Rattle.std.proofs.Common.{◌≡◌, ◌≢◌, ◌∙◌, ◌<◌, ◌^◌, ap, rules, subst}
+use Rattle.std.proofs.Common.{◌≢◌, ◌∙◌, ◌<◌, ◌^◌, ap, rules, subst}
 use Rattle.std.specs.List.{AllByRecursion}
 use Rattle.slack_base.specs.Inboxes.{with_post}
 use Rattle.stamp_queue.proofs.Wheels.{put_wheel, outside_none}
