@@ -137,7 +137,7 @@ front_silent code number t j k core silent = append_nil_left _ _ (ap (λ r. r.1)
 abbrev pub asked : (number : ℕ) → HartValue → Stretch → List Ask
 asked number new end = asks_of (ask_of end.outcome (id_at (end.next - 1) new number))
 
-nothing_of : (outcome : Outcome) (id : Id) → asks outcome ≡ false → asks_of (ask_of outcome id) ≡ []
+pub nothing_of : (outcome : Outcome) (id : Id) → asks outcome ≡ false → asks_of (ask_of outcome id) ≡ []
 nothing_of Ready id h = refl
 nothing_of Rests id h = refl
 nothing_of (Read line) id h = absurd (true≢false h)
@@ -301,6 +301,20 @@ one_tick code t old new sent out after asks =
       after = after ∙ ap (λ n. (ticks_by (tick code) t n old).0) single;
       asks = asks ∙ ap (λ a. sent ++ a) (sym (append-nil (tick_by (tick code) t old).1) ∙ ap (λ n. (ticks_by (tick code) t n old).1) single);
       last = ap (λ n. (ticks_by (tick code) t n old).1) before;
+    }
+
+-- so a tick that was one of these is the tick
+pub record IsOneTick (code : CodeValue) (t : ℕ) (old new : CoreValue HartValue) (sent out : List Ask) : Type 0 where
+  pub after : new ≡ (tick_by (tick code) t old).0
+  pub asks : out ≡ sent ++ (tick_by (tick code) t old).1
+
+pub the_tick : (code : CodeValue) (t next : ℕ) (old new : CoreValue HartValue) (sent out : List Ask) → t < next → next ≤ t + 1
+    → AreTicks code t next old new sent out → IsOneTick code t old new sent out
+the_tick code t next old new sent out lt le a =
+    let single : next - t ≡ 1 = omega (arith, lt, le) in
+    record {
+      after = a.after ∙ ap (λ n. (ticks_by (tick code) t n old).0) single;
+      asks = a.asks ∙ ap (λ n. sent ++ (ticks_by (tick code) t n old).1) single ∙ ap (λ s. sent ++ s) (append-nil (tick_by (tick code) t old).1);
     }
 
 -- no ticks yet, or some of which the last alone may have sent something

@@ -31,7 +31,7 @@ impl Model for TimedCore {
 }
 
 impl TimedCore {
-    ghost use Rattle.std.specs.Prelude.{◌≡◌, ◌-◌, ◌<◌, ◌≤◌, ◌++◌, [], IfNone, IfOk, IfSome, OnOk, OnErr, None, Some, not, slice_index};
+    ghost use Rattle.std.specs.Prelude.{◌≡◌, ◌+◌, ◌-◌, ◌<◌, ◌≤◌, ◌++◌, [], IfNone, IfOk, IfSome, OnOk, OnErr, None, Some, not, slice_index};
     ghost use Rattle.slack_base.specs.Numbers.{numbers_of};
     ghost use Rattle.slack_base.specs.Inboxes.{with_put, tick_by, ticks_by};
     ghost use Rattle.slack_base.specs.declared.bounds.TheConstants.{TOP};
@@ -146,8 +146,24 @@ impl TimedCore {
     /// it sends are appended, numbered from 0. `code` is the instruction memory of the core's machine, and tells which
     /// addresses are in memory too. After want of memory the core may be changed in part, and is only to be dropped or
     /// taken back to its mark.
-    #[tactic(auto, unfolding(crate::specs::Ticks::tick))]
     pub fn tick(&mut self, code: &Code, cycle: u64, out: &mut AskList) -> Result<(), OutOfMemory>
+        requires { cycle ≤ TOP }
+        ensures core { OnOk result (self.new.value ≡ (tick_by (tick code.now) cycle self.old.value).0) }
+        ensures saved { self.new.saved ≡ self.old.saved }
+        ensures asks { OnOk result (out.new ≡ out.old ++ (tick_by (tick code.now) cycle self.old.value).1) }
+    {
+        self.part(code, cycle, cycle + 1, out)?;
+        Ok(())
+    }
+
+    /// One tick at a cycle, posts first.
+    #[inline(never)]
+    fn tick_with_posts(
+        &mut self,
+        code: &Code,
+        cycle: u64,
+        out: &mut AskList,
+    ) -> Result<(), OutOfMemory>
         requires { cycle ≤ TOP }
         ensures core { OnOk result (self.new.value ≡ (tick_by (tick code.now) cycle self.old.value).0) }
         ensures saved { self.new.saved ≡ self.old.saved }
@@ -191,6 +207,7 @@ impl TimedCore {
 
     /// The ticks of some of the cycles from one on: of that in which a post is due, or of those before the first post
     /// is.
+    #[inline(always)]
     fn part(
         &mut self,
         code: &Code,
@@ -199,17 +216,20 @@ impl TimedCore {
         out: &mut AskList,
     ) -> Result<u64, OutOfMemory>
         requires order { from < until }
-        requires top { until ≤ TOP }
+        requires top { until ≤ TOP + 1 }
         ensures reached { IfOk result (λ r. (from < r) × (r ≤ until)) }
         ensures ticks { IfOk result (λ r. AreTicks code.now from r self.old.value self.new.value out.old out.new) }
         ensures saved { self.new.saved ≡ self.old.saved }
     {
         let due = self.inbox.next_due();
         if due <= from {
-            self.tick(code, from, out)?;
+            self.tick_with_posts(code, from, out)?;
             return Ok(from + 1);
         }
         let stretch = self.hart.stretch(code, from, until.min(due));
+        if !stretch.outcome.asks() {
+            return Ok(stretch.next);
+        }
         let id = id_at(stretch.next - 1, &self.hart, 0);
         send(stretch.outcome.ask(id), out)?;
         Ok(stretch.next)
@@ -257,27 +277,8 @@ impl TimedCore {
     }
 }
 
-/// Applies the posts that are due at a cycle, in the order of the inbox. Where none is, that takes one comparison.
-#[inline(always)]
+/// Applies the posts that are due at a cycle, in the order of the inbox.
 fn apply_due(
-    hart: &mut Hart,
-    inbox: &mut Inbox,
-    base: u32,
-    cycle: u64,
-    out: &mut AskList,
-) -> Result<(), OutOfMemory>
-    ensures hart { OnOk result (hart.new ≡ (applied_all base cycle 0 hart.old (filter (λ p. nat_le p.due cycle) inbox.old)).0) }
-    ensures inbox { OnOk result (inbox.new ≡ filter (λ p. nat_lt cycle p.due) inbox.old) }
-    ensures asks { OnOk result (out.new ≡ out.old ++ (applied_all base cycle 0 hart.old (filter (λ p. nat_le p.due cycle) inbox.old)).1) }
-{
-    if inbox.next_due() > cycle {
-        return Ok(());
-    }
-    apply_each(hart, inbox, base, cycle, out)
-}
-
-/// Applies the posts that are due at a cycle one after another.
-fn apply_each(
     hart: &mut Hart,
     inbox: &mut Inbox,
     base: u32,
@@ -310,7 +311,6 @@ fn id_at(cycle: u64, hart: &Hart, sent: usize) -> Id
 }
 
 /// Appends the ask, if there is one.
-#[inline(always)]
 fn send(ask: Option<Ask>, out: &mut AskList) -> Result<(), OutOfMemory>
     ensures { OnOk result (out.new ≡ out.old ++ asks_of ask) }
 {

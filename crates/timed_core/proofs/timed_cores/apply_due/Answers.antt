@@ -1,20 +1,17 @@
-use Rattle.std.proofs.Common.{◌∙◌, ◌<◌, ◌++◌, ap, sym, append-nil}
-use Rattle.std.specs.List.{AllByRecursion}
-use Rattle.timed_core.specs.Ticks.{applied_all}
-use Rattle.timed_core.proofs.Due.{none_due, all_later, later_by}
+use Rattle.std.proofs.Common.{◌∙◌, refl, sym}
+use Rattle.timed_core.proofs.Due.{done, all_later}
 use Rattle.timed_core.proofs.timed_cores.apply_due.Goals as goal
 
-later : (c : goal.Then-next_due-cycle) → AllByRecursion (λ p. c.args.cycle < p.due) c.args.inbox.now
-later c = later_by c.args.cycle c.next_due.result c.args.inbox.now c.if-next_due-cycle.true c.next_due.ensures.before
+pub returns-clause-hart : goal.returns-clause-hart
+returns-clause-hart c =
+    (done c.args.base c.args.cycle c.len-before.result c.loop-post.hart c.args.hart.now c.loop-post.inbox c.args.inbox.now c.loop-post.out c.args.out.now
+    (c.in_default.ensures.none.0 refl) c.len-before.ensures c.loop-post.invariant.posts).hart
 
-pub returns-then-next_due-cycle-clause-hart : goal.returns-then-next_due-cycle-clause-hart
-returns-then-next_due-cycle-clause-hart c =
-    ap (λ due. (applied_all c.args.base c.args.cycle 0 c.args.hart.now due).0) (sym (none_due c.args.cycle c.args.inbox.now (later c)))
+pub returns-clause-inbox : goal.returns-clause-inbox
+returns-clause-inbox c =
+    c.in_default.ensures.unchanged ∙ sym (all_later c.args.cycle c.loop-post.inbox (c.in_default.ensures.none.0 refl)) ∙ c.loop-post.invariant.later
 
-pub returns-then-next_due-cycle-clause-inbox : goal.returns-then-next_due-cycle-clause-inbox
-returns-then-next_due-cycle-clause-inbox c = sym (all_later c.args.cycle c.args.inbox.now (later c))
-
-pub returns-then-next_due-cycle-clause-asks : goal.returns-then-next_due-cycle-clause-asks
-returns-then-next_due-cycle-clause-asks c =
-    sym (append-nil c.args.out.now)
-    ∙ ap (λ due. c.args.out.now ++ (applied_all c.args.base c.args.cycle 0 c.args.hart.now due).1) (sym (none_due c.args.cycle c.args.inbox.now (later c)))
+pub returns-clause-asks : goal.returns-clause-asks
+returns-clause-asks c =
+    (done c.args.base c.args.cycle c.len-before.result c.loop-post.hart c.args.hart.now c.loop-post.inbox c.args.inbox.now c.loop-post.out c.args.out.now
+    (c.in_default.ensures.none.0 refl) c.len-before.ensures c.loop-post.invariant.posts).asks

@@ -1,6 +1,6 @@
 use Rattle.std.proofs.Common.{◌≡◌, ◌≤◌, length}
 use Rattle.timed_core.proofs.Due.{through_due, later_than}
-use Rattle.timed_core.proofs.timed_cores.apply_each.Given as goal
+use Rattle.timed_core.proofs.timed_cores.apply_due.Given as goal
 
 abbrev pub invariant-loop-post : goal.invariant-loop-post
 invariant-loop-post l = record {
