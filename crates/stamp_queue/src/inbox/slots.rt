@@ -108,3 +108,6 @@ pub(super) fn slot_of(due: u64) -> usize
 {
     (due % 256) as usize
 }
+
+#[cfg(test)]
+mod tests;
