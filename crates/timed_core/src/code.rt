@@ -32,7 +32,7 @@ impl Model for Code {
 }
 
 impl Code {
-    ghost use Rattle.std.specs.Prelude.{◌≡◌, ◌-◌, None, Some, IfOk, IfSome, if◌then◌else◌};
+    ghost use Rattle.std.specs.Prelude.{◌≡◌, ◌-◌, IfOk, IfSome, IsTrue};
     ghost use Rattle.slack_base.specs.Images.{Fits};
     ghost use Rattle.slack_base.specs.Numbers.{numbers_of};
     ghost use Rattle.timed_core.specs.Code.{word_at, instr_at, is_in_memory, code_of};
@@ -67,7 +67,7 @@ impl Code {
     pub fn is_in_memory(&self, address: u32) -> bool
         ensures { result ≡ is_in_memory self.now address }
     {
-        address >= self.base && ((address - self.base) as usize) < self.bytes.len()
+        (address.wrapping_sub(self.base) as usize) < self.bytes.len()
     }
 
     /// The little-endian word at an address: none outside memory, and none off a multiple of 4.
@@ -120,16 +120,12 @@ impl Code {
         *room = Kept::of(self.instr(address));
     }
 
-    /// How many bytes lie between the beginning of memory and an address: none where that is outside memory.
+    /// How many bytes lie between the beginning of memory and an address of memory.
     #[inline(always)]
-    pub fn offset(&self, address: u32) -> Option<u32>
-        ensures { result ≡ (if is_in_memory self.now address then Some (address - self.now.base) else None) }
+    pub fn offset(&self, address: u32) -> u32
+        requires { IsTrue (is_in_memory self.now address) }
+        ensures { result ≡ address - self.now.base }
     {
-        let offset = address.checked_sub(self.base)?;
-        if (offset as usize) < self.bytes.len() {
-            Some(offset)
-        } else {
-            None
-        }
+        address.wrapping_sub(self.base)
     }
 }

@@ -41,11 +41,11 @@ impl Hart {
             self.trap_misaligned(cycle, address);
             return Outcome::Rests;
         }
-        let Some(offset) = code.offset(address) else {
+        if !code.is_in_memory(address) {
             self.trap_outside(cycle, address);
             return Outcome::Rests;
-        };
-        self.try_access(access, offset / 16, address, cycle)
+        }
+        self.try_access(access, code.offset(address) / 16, address, cycle)
     }
 
     /// Looks the line of an access up, but for an SC whose address isn't the reservation, which fails.
