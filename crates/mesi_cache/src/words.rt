@@ -11,9 +11,9 @@ pub fn word_at(words: &Words, place: u32) -> u32
     ensures { result ≡ word_of words.now place }
 {
     let Words { w0, w1, w2, w3 } = *words;
-    let first = if place == 0 { w0 } else { w1 };
-    let last = if place == 2 { w2 } else { w3 };
-    if place < 2 { first } else { last }
+    let even = if place < 2 { w0 } else { w2 };
+    let odd = if place < 2 { w1 } else { w3 };
+    if place % 2 == 0 { even } else { odd }
 }
 
 /// The words with another one at a place, 0 to 3.

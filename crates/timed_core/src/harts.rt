@@ -222,7 +222,7 @@ impl Hart {
 
     /// Completes an instruction of several cycles, and goes on to the next.
     #[inline(always)]
-    fn go_on_late(&mut self, cost: u32) -> Outcome
+    fn go_on_slowly(&mut self, cost: u32) -> Outcome
         requires { 1 < cost }
         ensures after { self.new ≡ goes_on cost self.old }
         ensures outcome { result ≡ Outcome.Rests }
@@ -235,14 +235,14 @@ impl Hart {
 
     /// Completes an instruction of several cycles that writes a register, and goes on to the next.
     #[inline(always)]
-    fn give_late(&mut self, rd: u8, value: u32, cost: u32) -> Outcome
+    fn give_slowly(&mut self, rd: u8, value: u32, cost: u32) -> Outcome
         requires register { rd < 32 }
         requires some { 1 < cost }
         ensures after { self.new ≡ gives rd value cost self.old }
         ensures outcome { result ≡ Outcome.Rests }
     {
         self.write(rd, value);
-        self.go_on_late(cost)
+        self.go_on_slowly(cost)
     }
 
     /// Ends the hart by a trap.

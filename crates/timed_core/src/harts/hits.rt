@@ -1,8 +1,7 @@
 //! What an access to memory does to a hart: it hits or misses its line, fails or ends the hart.
-ghost use Rattle.std.specs.Prelude.{◌≡◌, ◌≤◌, ◌<◌, ◌%◌, ℕ, Some, IfSome, IsTrue};
-ghost use Rattle.std.specs.Option.{option_map};
+ghost use Rattle.std.specs.Prelude.{◌≡◌, ◌≤◌, ◌<◌, ◌%◌, ℕ, Some, IsTrue};
 ghost use Rattle.slack_base.specs.declared.bounds.TheConstants.{TOP};
-ghost use Rattle.mesi_cache.specs.Caches.{line_in, read_line, write_line};
+ghost use Rattle.mesi_cache.specs.Caches.{read_line, write_line};
 ghost use Rattle.mesi_cache.specs.Lines.{may_write};
 ghost use Rattle.mesi_cache.specs.Places.{IsFoundIn};
 ghost use Rattle.timed_core.specs.Accesses.{is_aligned, hits, word_in_line, with_access, hit, missed, looked_up, failed, tried, accessed, held_in};

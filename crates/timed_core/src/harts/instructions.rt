@@ -1,6 +1,6 @@
 //! What an instruction does to a hart, as its page of the manual says (RISC-V Unprivileged ISA 20191213, chapters 2, 7
 //! and 8).
-ghost use Rattle.std.specs.Prelude.{◌≡◌, ◌<◌, ◌≤◌, ◌%◌, ◌==◌, IsSomeAnd, slice_index, if◌then◌else◌};
+ghost use Rattle.std.specs.Prelude.{◌≡◌, ◌<◌, ◌≤◌, IsSomeAnd};
 ghost use Rattle.slack_base.specs.declared.bounds.TheConstants.{TOP};
 ghost use Rattle.rv_decode.specs.Ranges.{IsInRange};
 ghost use Rattle.timed_core.specs.Code.{CodeValue};
@@ -77,14 +77,14 @@ impl Hart {
             Kept::And(rd, rs1, rs2) => self.give(rd, alu(RegOp::And, self.x(rs1), self.x(rs2))),
             Kept::Sub(rd, rs1, rs2) => self.give(rd, alu(RegOp::Sub, self.x(rs1), self.x(rs2))),
             Kept::Sra(rd, rs1, rs2) => self.give(rd, alu(RegOp::Sra, self.x(rs1), self.x(rs2))),
-            Kept::Mul(rd, rs1, rs2) => self.give_late(rd, alu(RegOp::Mul, self.x(rs1), self.x(rs2)), 3),
-            Kept::Mulh(rd, rs1, rs2) => self.give_late(rd, alu(RegOp::Mulh, self.x(rs1), self.x(rs2)), 3),
-            Kept::Mulhsu(rd, rs1, rs2) => self.give_late(rd, alu(RegOp::Mulhsu, self.x(rs1), self.x(rs2)), 3),
-            Kept::Mulhu(rd, rs1, rs2) => self.give_late(rd, alu(RegOp::Mulhu, self.x(rs1), self.x(rs2)), 3),
-            Kept::Div(rd, rs1, rs2) => self.give_late(rd, alu(RegOp::Div, self.x(rs1), self.x(rs2)), 16),
-            Kept::Divu(rd, rs1, rs2) => self.give_late(rd, alu(RegOp::Divu, self.x(rs1), self.x(rs2)), 16),
-            Kept::Rem(rd, rs1, rs2) => self.give_late(rd, alu(RegOp::Rem, self.x(rs1), self.x(rs2)), 16),
-            Kept::Remu(rd, rs1, rs2) => self.give_late(rd, alu(RegOp::Remu, self.x(rs1), self.x(rs2)), 16),
+            Kept::Mul(rd, rs1, rs2) => self.give_slowly(rd, alu(RegOp::Mul, self.x(rs1), self.x(rs2)), 3),
+            Kept::Mulh(rd, rs1, rs2) => self.give_slowly(rd, alu(RegOp::Mulh, self.x(rs1), self.x(rs2)), 3),
+            Kept::Mulhsu(rd, rs1, rs2) => self.give_slowly(rd, alu(RegOp::Mulhsu, self.x(rs1), self.x(rs2)), 3),
+            Kept::Mulhu(rd, rs1, rs2) => self.give_slowly(rd, alu(RegOp::Mulhu, self.x(rs1), self.x(rs2)), 3),
+            Kept::Div(rd, rs1, rs2) => self.give_slowly(rd, alu(RegOp::Div, self.x(rs1), self.x(rs2)), 16),
+            Kept::Divu(rd, rs1, rs2) => self.give_slowly(rd, alu(RegOp::Divu, self.x(rs1), self.x(rs2)), 16),
+            Kept::Rem(rd, rs1, rs2) => self.give_slowly(rd, alu(RegOp::Rem, self.x(rs1), self.x(rs2)), 16),
+            Kept::Remu(rd, rs1, rs2) => self.give_slowly(rd, alu(RegOp::Remu, self.x(rs1), self.x(rs2)), 16),
             Kept::Lr(rd, rs1, _, _) => self.access(code, Access::LoadReserved { rd }, self.x(rs1), cycle),
             Kept::Sc(rd, rs1, rs2, _, _) => self.access(code, Access::StoreConditional { rd, value: self.x(rs2) }, self.x(rs1), cycle),
             Kept::Amo(op, rd, rs1, rs2, _, _) => self.access(code, Access::Amo { op, rd, operand: self.x(rs2) }, self.x(rs1), cycle),
@@ -140,14 +140,14 @@ impl Hart {
         let service = self.registers[17];
         let argument = self.registers[10];
         if service == 1 {
-            self.go_on_late(4);
+            self.go_on_slowly(4);
             return Outcome::Put { word: argument };
         }
         if service != 93 {
             self.trap_call(cycle, service);
             return Outcome::Rests;
         }
-        self.go_on_late(4);
+        self.go_on_slowly(4);
         self.ended = CoreEnd::Exit {
             at: cycle,
             code: argument,
