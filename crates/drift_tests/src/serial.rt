@@ -9,7 +9,7 @@ use crate::replays::check;
 use drift_run::{Pace, drift, drift_serial};
 use image_load::read_image;
 use io_edge::{Gate, NeverHold, Stop, StopGate, StopList};
-use lockstep_model::{RvTarget, start};
+use lockstep_model::{Machine, RvTarget, start};
 use slack_base::{Ask, Config, Image, RawConfig};
 use std::alloc::Global;
 use std::process::Abort;
@@ -63,27 +63,28 @@ fn small_config<R: Abort>(rt: &R) -> Config
     Config::checked(numbers).expect(rt, "a configuration within its bounds")
 }
 
-/// A drift of two cores that store to one line is gone through once more. Returns whether nothing was seen of it.
+/// A drift of two cores that store to one line is gone through once more, beside the machine in lockstep. Returns whether
+/// nothing was seen of it.
 fn is_quiet<R: Abort + AllocGlobal>(
     rt: &R,
     config: &Config,
     image: &Image,
     target: &RvTarget,
+    machine: &Machine,
     drifted: &Drifted<RvTarget>,
 ) -> Result<bool, Fail>
     requires image { Fits config.now.base config.now.memory image.now }
     requires one { config.now.buses ≡ 1 }
 {
-    let alloc = rt.alloc();
     let drift = &drifted.drift;
     check(rt, config, image, &target.code, drift, &drifted.end)?;
+    assert_eq!(rt; (drift.start, drift.len), (0, CYCLES));
     assert_eq!(rt; drift.sent.len(), 2);
     assert_eq!(rt; drift.clashes.len(), drift.served.len());
-    assert!(rt; scan(alloc, target, drift)? == drifted.seen);
-    let mut machine = start(alloc, target, image)?;
-    run_to(alloc, target, &mut machine, CYCLES)?;
-    assert!(rt; !drifted.seen.is_empty() || are_same(&drifted.end, &machine));
-    Ok(drifted.seen.is_empty())
+    assert!(rt; scan(rt.alloc(), target, drift)? == drifted.seen);
+    let is_quiet = drifted.seen.is_empty();
+    assert!(rt; !is_quiet || are_same(&drifted.end, machine));
+    Ok(is_quiet)
 }
 
 /// Two cores that store to one line, on one thread and by threads. Returns whether nothing was seen of either drift.
@@ -99,12 +100,14 @@ fn race<R: Threads + Sync + Abort + AllocGlobal, G: Gate + Sync>(
     let config = small_config(rt);
     let image = image_of(rt, &config, STORES);
     let target = RvTarget::make(alloc, config, &image)?;
+    let mut machine = start(alloc, &target, &image)?;
+    run_to(alloc, &target, &mut machine, CYCLES)?;
     let begun = start(alloc, &target, &image)?;
     let in_turn = drift_serial(alloc, &target, begun, CYCLES, pace, gate)?;
-    let first = is_quiet(rt, &config, &image, &target, &in_turn)?;
+    let first = is_quiet(rt, &config, &image, &target, &machine, &in_turn)?;
     let begun = start(alloc, &target, &image)?;
     let at_once = drift(rt, alloc, &target, begun, CYCLES, pace, gate)?;
-    let second = is_quiet(rt, &config, &image, &target, &at_once)?;
+    let second = is_quiet(rt, &config, &image, &target, &machine, &at_once)?;
     Ok(first && second)
 }
 
@@ -170,7 +173,10 @@ fn a_race_that_is_repeated(rt: HostRuntime) -> Result<(), Fail> {
     let second = drift_serial(alloc, &target, begun, CYCLES, &pace, &NeverHold)?;
     assert!(rt; first.drift == second.drift && first.seen == second.seen);
     assert!(rt; are_same(&first.end, &second.end));
-    assert!(rt; scan(alloc, &target, &first.drift)? == first.seen);
+    let drift = &first.drift;
+    assert_eq!(rt; drift.sent.len(), 2);
+    assert_eq!(rt; drift.clashes.len(), drift.served.len());
+    assert!(rt; scan(alloc, &target, drift)? == first.seen);
     Ok(())
 }
 
