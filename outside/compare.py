@@ -73,9 +73,9 @@ def random_config(rng):
     snoop = rng.choice([1, 2, 5])
     return {
         **DEFAULTS,
-        "cores": rng.randrange(1, 9),
+        "cores": rng.randrange(1, 17),
         "base": rng.choice([0, 4096, 65536]),
-        "memory": rng.choice([32768, 65536]),
+        "memory": rng.choice([65536, 131072]),
         "sets": rng.choice([1, 1, 2, 4, 16, 64]),
         "ways": rng.choice([1, 1, 1, 2, 4, 8]),
         "buses": rng.choice([1, 2, 4]),

@@ -53,7 +53,7 @@ def calls():
         (["asm"], example("lock.s")),
         (["list"], example("exit.elf")),
         (["asm"], b"addi a0, x0, 2048\n"),
-        (["run", "--cores", "9"], b""),
+        (["run", "--cores", "17"], b""),
     ]
 
 

@@ -2,6 +2,7 @@
 use Rattle.std.proofs.Common.{◌≡◌, ◌≢◌, ◌∙◌, ℕ, ◌<◌, ◌≤◌, Bool, true, false, Option, None, Some, List, ◌∷◌, ◌++◌, refl, sym, ap, subst, inl, inr, ◌==◌, ◌&&◌}
 use Rattle.std.specs.Option.{option_map}
 use Rattle.std.proofs.lemmas.Bool.{cases_eq, cases_Bool, ne_eqb, eqb-true, and_parts, false≢true}
+use Rattle.slack_base.specs.declared.bounds.TheConstants.{MOST_CORES}
 use Rattle.slack_base.specs.declared.messages.Ask.{Ask}
 use Rattle.slack_base.specs.declared.messages.Ask.TheVariants.{WriteBack, Flush}
 use Rattle.slack_base.specs.declared.messages.Post.{Post}
@@ -88,7 +89,7 @@ not_M h e f = false≢true (sym e ∙ ap is_modified f)
 
 module _ (lines t : ℕ) (asked : ℕ → ℕ) (inner : ℕ → HartValue) (base : ℕ → List Post) (sent : List Post) (entry : ℕ → EntryView)
     (c : ℕ) (p : Post) (rest : List Post) (at_base : base c ≡ p ∷ rest) (now : p.due ≤ t) (own : p.line < lines) (world : AreLines lines t asked inner base sent entry)
-    (cache : IsCache (inner c).cache) (holds : HoldsBelow lines (inner c).cache) (id : Id) (mine : id.core ≡ c) (low : c < 8) where
+    (cache : IsCache (inner c).cache) (holds : HoldsBelow lines (inner c).cache) (id : Id) (mine : id.core ≡ c) (low : c < MOST_CORES) where
   abbrev core : HartValue
   core = inner c
 

@@ -4,6 +4,7 @@ use Rattle.std.specs.Option.{option_map}
 use Rattle.std.proofs.lemmas.Bool.{cases_eq, cases_Bool, eq-eqb, ne_eqb, and_parts, false≢true}
 use Rattle.std.proofs.lemmas.Bool.Decides.{nat_tests}
 use Rattle.slack_base.specs.Growing.{raised}
+use Rattle.slack_base.specs.declared.bounds.TheConstants.{MOST_CORES}
 use Rattle.slack_base.specs.declared.messages.Ask.{Ask}
 use Rattle.slack_base.specs.declared.messages.Ask.TheVariants.{Read, ReadOwn, Put}
 use Rattle.slack_base.specs.declared.messages.Post.{Post}
@@ -83,7 +84,7 @@ line_below code lines address whole inside =
     omega arith
 
 module _ (lines t : ℕ) (asked : ℕ → ℕ) (inner : ℕ → HartValue) (base : ℕ → List Post) (sent : List Post) (entry : ℕ → EntryView)
-    (c : ℕ) (world : AreLines lines t asked inner base sent entry) (cache : IsCache (inner c).cache) (id : Id) (mine : id.core ≡ c) (low : c < 8) where
+    (c : ℕ) (world : AreLines lines t asked inner base sent entry) (cache : IsCache (inner c).cache) (id : Id) (mine : id.core ≡ c) (low : c < MOST_CORES) where
   abbrev core : HartValue
   core = inner c
 

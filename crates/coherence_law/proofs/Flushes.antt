@@ -2,6 +2,7 @@
 use Rattle.std.proofs.Common.{◌≡◌, ◌≢◌, ◌∙◌, ℕ, ◌+◌, ◌<◌, ◌≤◌, Bool, true, false, Option, None, Some, [], ◌∷◌, nat_lt, refl, sym, ap, subst, inl, inr, arith, unwrap_or}
 use Rattle.std.specs.Option.{option_map}
 use Rattle.std.proofs.lemmas.Bool.{cases_eq, eqb-true, eqb-false, false≢true}
+use Rattle.slack_base.specs.declared.bounds.TheConstants.{MOST_CORES}
 use Rattle.slack_base.specs.declared.stamps.Id.{Id}
 use Rattle.slack_base.specs.declared.messages.Words.{Words}
 use Rattle.slack_base.specs.declared.messages.Ask.TheVariants.{WriteBack, Flush}
@@ -125,7 +126,7 @@ clear_sharer m cores k p s = record { held = subst (IsShareHeld m cores k) (sym 
 abbrev pub words_in : Option HeldLine → Option Words
 words_in o = option_map (λ h. h.words) o
 
-module _ (t : ℕ) (i : Id) (l g settled o r : ℕ) (m : Words) (parts : ℕ → Part) (d : Delays) (soon : t ≤ g) (low : i.core < 8) (low' : r < 8)
+module _ (t : ℕ) (i : Id) (l g settled o r : ℕ) (m : Words) (parts : ℕ → Part) (d : Delays) (soon : t ≤ g) (low : i.core < MOST_CORES) (low' : r < MOST_CORES)
     (same : i.core ≡ o) (apart : r ≢ o) (asked : (parts r).want ≡ Asked)
     (punctual : (k : ℕ) → IsPunctualPart t (parts k)) (below : (k : ℕ) → IsSettled settled (parts k).want)
     (there : IsThere m i.core parts) (only_one : (k : ℕ) → k ≢ o → (parts k).snoop ≡ None) where

@@ -1,11 +1,12 @@
 -- Posts of one kind to several cores.
-use Rattle.std.proofs.Common.{◌≡◌, ◌≢◌, ◌∙◌, ℕ, zero, suc, ◌+◌, ◌<◌, Bool, true, false, not, None, Some, List, [], ◌∷◌, ◌++◌, map, filter, refl, sym, ap, inl, inr, arith, ◌==◌}
-use Rattle.std.specs.List.{AllByRecursion, list_any}
+use Rattle.std.proofs.Common.{◌≡◌, ◌≢◌, ◌∙◌, ℕ, zero, suc, ◌+◌, ◌<◌, ◌≤◌, Bool, true, false, not, None, Some, List, [], ◌∷◌, ◌++◌, map, filter, refl, sym, ap, inl, inr, arith, ◌==◌}
+use Rattle.std.specs.List.{AllByRecursion, list_any, range_with_len}
 use Rattle.std.proofs.lemmas.Bool.{cases_eq, cases_Bool, eq-eqb, ne_eqb, false≢true, and_from, not_from_false}
+use Rattle.slack_base.specs.declared.bounds.TheConstants.{MOST_CORES}
 use Rattle.slack_base.specs.declared.messages.Post.{Post}
 use Rattle.slack_base.specs.declared.messages.PostKind.TheVariants.{Invalidate}
 use Rattle.slack_base.specs.declared.stamps.Id.{Id}
-use Rattle.status_map.specs.Cores.{holds, is_other, others}
+use Rattle.status_map.specs.Cores.{all_cores, holds, is_other, others}
 use Rattle.status_map.specs.Table.{send, post_of}
 use Rattle.coherence_law.specs.Lines.{Part, received, all_received, AreFresh}
 use Rattle.coherence_law.specs.Invariant.{IsMember}
@@ -39,8 +40,13 @@ apart_filter q (x ∷ xs) h = elim (cases_Bool (q x)) [
   | inr n ↦ rw n (apart_filter q xs h.1)
 ]
 
-apart_cores : Apart (0 ∷ 1 ∷ 2 ∷ 3 ∷ 4 ∷ 5 ∷ 6 ∷ 7 ∷ [])
-apart_cores = ((λ e. absurd (omega (arith, e)), (λ e. absurd (omega (arith, e)), (λ e. absurd (omega (arith, e)), (λ e. absurd (omega (arith, e)), (λ e. absurd (omega (arith, e)), (λ e. absurd (omega (arith, e)), (λ e. absurd (omega (arith, e)), tt))))))), ((λ e. absurd (omega (arith, e)), (λ e. absurd (omega (arith, e)), (λ e. absurd (omega (arith, e)), (λ e. absurd (omega (arith, e)), (λ e. absurd (omega (arith, e)), (λ e. absurd (omega (arith, e)), tt)))))), ((λ e. absurd (omega (arith, e)), (λ e. absurd (omega (arith, e)), (λ e. absurd (omega (arith, e)), (λ e. absurd (omega (arith, e)), (λ e. absurd (omega (arith, e)), tt))))), ((λ e. absurd (omega (arith, e)), (λ e. absurd (omega (arith, e)), (λ e. absurd (omega (arith, e)), (λ e. absurd (omega (arith, e)), tt)))), ((λ e. absurd (omega (arith, e)), (λ e. absurd (omega (arith, e)), (λ e. absurd (omega (arith, e)), tt))), ((λ e. absurd (omega (arith, e)), (λ e. absurd (omega (arith, e)), tt)), ((λ e. absurd (omega (arith, e)), tt), (tt, tt))))))))
+later_apart : (x from n : ℕ) → x < from → AllByRecursion (λ k. k ≢ x) (range_with_len from n)
+later_apart x from zero h = tt
+later_apart x from (suc n) h = ((λ e. absurd (omega (arith, e))), later_apart x (from + 1) n (omega arith))
+
+apart_range : (from n : ℕ) → Apart (range_with_len from n)
+apart_range from zero = tt
+apart_range from (suc n) = (later_apart from (from + 1) n (omega arith), apart_range (from + 1) n)
 
 -- the number is in the list
 abbrev pub is_in : ℕ → List ℕ → Bool
@@ -56,21 +62,17 @@ in_filter q k (x ∷ xs) y h = elim (cases_eq x k) [
   ]
 ]
 
-below_eight : (k : ℕ) → k < 8 → is_in k (0 ∷ 1 ∷ 2 ∷ 3 ∷ 4 ∷ 5 ∷ 6 ∷ 7 ∷ []) ≡ true
-below_eight zero h = refl
-below_eight (suc zero) h = refl
-below_eight (suc (suc zero)) h = refl
-below_eight (suc (suc (suc zero))) h = refl
-below_eight (suc (suc (suc (suc zero)))) h = refl
-below_eight (suc (suc (suc (suc (suc zero))))) h = refl
-below_eight (suc (suc (suc (suc (suc (suc zero)))))) h = refl
-below_eight (suc (suc (suc (suc (suc (suc (suc zero))))))) h = refl
-below_eight (suc (suc (suc (suc (suc (suc (suc (suc k)))))))) h = absurd (omega arith)
+in_range : (k from n : ℕ) → from ≤ k → k < from + n → is_in k (range_with_len from n) ≡ true
+in_range k from zero low high = absurd (omega arith)
+in_range k from (suc n) low high = elim (cases_eq from k) [
+  | inl e ↦ rw (eq-eqb from k e) refl
+  | inr n0 ↦ rw (ne_eqb from k n0) (in_range k (from + 1) n (omega arith) (omega arith))
+]
 
 pub member_in : (cores c k : ℕ) → k ≢ c → IsMember cores k → is_in k (others cores c) ≡ true
 member_in cores c k n h =
-    in_filter (is_other cores c) k (0 ∷ 1 ∷ 2 ∷ 3 ∷ 4 ∷ 5 ∷ 6 ∷ 7 ∷ [])
-    (and_from (not (k == c)) (holds cores k) (not_from_false (k == c) (ne_eqb k c n)) h.among) (below_eight k h.low)
+    in_filter (is_other cores c) k all_cores
+    (and_from (not (k == c)) (holds cores k) (not_from_false (k == c) (ne_eqb k c n)) h.among) (in_range k 0 MOST_CORES (omega arith) (omega (arith, h.low)))
 
 -- the one that asks isn't among them
 not_in_filter : (q : ℕ → Bool) (k : ℕ) (xs : List ℕ) → q k ≡ false → is_in k (filter q xs) ≡ false
@@ -83,10 +85,10 @@ not_in_filter q k (x ∷ xs) out = elim (cases_Bool (q x)) [
 ]
 
 pub asking_out : (cores c : ℕ) → is_in c (others cores c) ≡ false
-asking_out cores c = not_in_filter (is_other cores c) c (0 ∷ 1 ∷ 2 ∷ 3 ∷ 4 ∷ 5 ∷ 6 ∷ 7 ∷ []) (rw (eq-eqb c c refl) refl)
+asking_out cores c = not_in_filter (is_other cores c) c all_cores (rw (eq-eqb c c refl) refl)
 
 pub apart_others : (cores c : ℕ) → Apart (others cores c)
-apart_others cores c = apart_filter (is_other cores c) (0 ∷ 1 ∷ 2 ∷ 3 ∷ 4 ∷ 5 ∷ 6 ∷ 7 ∷ []) apart_cores
+apart_others cores c = apart_filter (is_other cores c) all_cores (apart_range 0 MOST_CORES)
 
 module _ (id : Id) (line grant delay : ℕ) where
   abbrev pub invalidation : ℕ → Post

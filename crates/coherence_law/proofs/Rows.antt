@@ -2,6 +2,7 @@
 use Rattle.std.proofs.Common.{◌≡◌, ◌≢◌, ◌∙◌, ℕ, ◌+◌, ◌<◌, ◌≤◌, Bool, true, false, Option, None, Some, List, [], ◌∷◌, ◌++◌, map, max, nat_lt, refl, sym, ap, subst, inl, inr, arith}
 use Rattle.std.specs.List.{fold}
 use Rattle.std.proofs.lemmas.Bool.{cases_eq, cases_Bool, eq-eqb, ne_eqb, eqb-true, eqb-false, ltb-false, false≢true}
+use Rattle.slack_base.specs.declared.bounds.TheConstants.{MOST_CORES}
 use Rattle.slack_base.specs.declared.stamps.Id.{Id}
 use Rattle.slack_base.specs.declared.messages.Words.{Words}
 use Rattle.std.proofs.lemmas.List.{map-append}
@@ -127,7 +128,7 @@ snoop_part settled t g delay o x m parts s =
     }) o s
 
 moving_kept : (t g settled delay o c : ℕ) (x : Bool) (m : Words) (parts : ℕ → Part)
-    → t ≤ g → settled ≤ g → c ≢ o → c < 8 → (parts c).want ≡ Asked → Invariant t (line_of (Owned o) settled m parts)
+    → t ≤ g → settled ≤ g → c ≢ o → c < MOST_CORES → (parts c).want ≡ Asked → Invariant t (line_of (Owned o) settled m parts)
     → Invariant t (line_of (Moving o c x) settled m (changed o (record (parts o) { snoop = Some (g + delay, x) }) parts))
 moving_kept t g settled delay o c x m parts soon late apart low asked k =
     let p : Part = record (parts o) { snoop = Some (g + delay, x) } in
@@ -181,7 +182,7 @@ module _ (t g settled : ℕ) (m : Words) (parts : ℕ → Part) (soon : t ≤ g)
       )
 
 -- a set with one more core
-module _ (cores c : ℕ) (low : c < 8) where
+module _ (cores c : ℕ) (low : c < MOST_CORES) where
   pub member_new : IsMember (with_core cores c) c
   member_new = record { among = rw (holds-with_core cores c c, eq-eqb c c refl) refl; low = low }
 
@@ -207,7 +208,7 @@ module _ (cores c : ℕ) (low : c < 8) where
   sharer_still : (m : Words) (k : ℕ) (p : Part) → IsSharer m cores k p → IsSharer m (with_core cores c) k p
   sharer_still m k p h = record { held = share_held m k p.held h.held; reply = share_fill m k p.want h.reply; invalidate = h.invalidate }
 
-shared_read_row : (t g settled l cores : ℕ) (m : Words) (parts : ℕ → Part) (d : Delays) (i : Id) → t ≤ g → i.core < 8 → (parts i.core).want ≡ Asked
+shared_read_row : (t g settled l cores : ℕ) (m : Words) (parts : ℕ → Part) (d : Delays) (i : Id) → t ≤ g → i.core < MOST_CORES → (parts i.core).want ≡ Asked
     → Invariant t (line_of (Shared cores) settled m parts) → IsRow t i l g settled parts (outcome (send i.core d.memory (Reply false m) ∷ []) (Shared (with_core cores i.core)) m)
 shared_read_row t g settled l cores m parts d i soon low asked k =
     let c = i.core in (
@@ -216,7 +217,7 @@ shared_read_row t g settled l cores m parts d i soon low asked k =
           (λ j. sharer_still cores c low m j (parts j) (k.kind.0 j)) (member_new cores c low) k.kind.1,
     )
 
-module _ (t g settled l : ℕ) (parts : ℕ → Part) (soon : t ≤ g) (d : Delays) (i : Id) (low : i.core < 8)
+module _ (t g settled l : ℕ) (parts : ℕ → Part) (soon : t ≤ g) (d : Delays) (i : Id) (low : i.core < MOST_CORES)
     (asked : (parts i.core).want ≡ Asked) (unwritable : IsUnwritable (parts i.core).held) where
   read_row : (kind : EntryKind) (m : Words) (mine early : Bool) → owns i.core kind ≡ mine → nat_lt g settled ≡ early → IsNotFor i.core kind
       → Invariant t (line_of kind settled m parts) → IsRow t i l g settled parts (row d m (Read i l) kind mine early)
@@ -318,7 +319,7 @@ module _ (t g settled l cores : ℕ) (m : Words) (parts : ℕ → Part) (d : Del
       ∙ ap (λ ps. ps ++ last ∷ []) (sent_all i l g d.snoop them)))
       (fresh, kept')
 
-module _ (t g settled l : ℕ) (parts : ℕ → Part) (soon : t ≤ g) (d : Delays) (i : Id) (low : i.core < 8) (short : d.snoop < d.memory)
+module _ (t g settled l : ℕ) (parts : ℕ → Part) (soon : t ≤ g) (d : Delays) (i : Id) (low : i.core < MOST_CORES) (short : d.snoop < d.memory)
     (asked : (parts i.core).want ≡ Asked) (unwritable : IsUnwritable (parts i.core).held) where
   own_row : (kind : EntryKind) (m : Words) (mine early : Bool) → owns i.core kind ≡ mine → nat_lt g settled ≡ early → IsNotFor i.core kind
       → Invariant t (line_of kind settled m parts) → IsRow t i l g settled parts (row d m (ReadOwn i l) kind mine early)
@@ -351,7 +352,7 @@ module _ (t : ℕ) (id : Id) (x : Line) (unwritable : IsUnwritable (x.parts id.c
   for_another : IsNotFor id.core x.entry.kind
   for_another = not_for id.core (x.parts id.core) x.parts x.entry.words x.entry.settled x.entry.kind (λ e. nothing≢asked (sym want ∙ e)) k.kind
 
-  module _ (grant line : ℕ) (d : Delays) (soon : t ≤ grant) (low : id.core < 8) where
+  module _ (grant line : ℕ) (d : Delays) (soon : t ≤ grant) (low : id.core < MOST_CORES) where
     read_served : IsServed t d grant (Read id line) waiting
     unfolding serve
     read_served =
@@ -370,10 +371,10 @@ pub reads : Reads
 reads t c grant line d id x held want soon core low k =
     subst (λ j. IsServed t d grant (Read id line) (with_part j (asking_part (x.parts j)) x)) core
     (read_served t id x (subst (λ j. IsUnwritable (x.parts j).held) (sym core) (subst IsUnwritable (sym held) tt)) (subst (λ j. (x.parts j).want ≡ Nothing) (sym core) want) k
-    grant line d soon (subst (λ j. j < 8) (sym core) low))
+    grant line d soon (subst (λ j. j < MOST_CORES) (sym core) low))
 
 pub owns_line : Owns
 owns_line t c grant line d id x unwritable want soon core low short k =
     subst (λ j. IsServed t d grant (ReadOwn id line) (with_part j (asking_part (x.parts j)) x)) core
     (own_served t id x (subst (λ j. IsUnwritable (x.parts j).held) (sym core) unwritable) (subst (λ j. (x.parts j).want ≡ Nothing) (sym core) want) k
-    grant line d soon (subst (λ j. j < 8) (sym core) low) short)
+    grant line d soon (subst (λ j. j < MOST_CORES) (sym core) low) short)

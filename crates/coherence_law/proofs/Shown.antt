@@ -1,6 +1,7 @@
 -- A snoop, and what the invariant says of who holds the line.
 use Rattle.std.proofs.Common.{◌≡◌, ◌≢◌, ◌∙◌, ℕ, ◌<◌, ◌≤◌, Bool, Option, None, Some, nat_lt, refl, sym, ap, subst, inl, inr, arith}
 use Rattle.std.proofs.lemmas.Bool.{cases_eq}
+use Rattle.slack_base.specs.declared.bounds.TheConstants.{MOST_CORES}
 use Rattle.slack_base.specs.declared.stamps.Id.{Id}
 use Rattle.slack_base.specs.declared.messages.Words.{Words}
 use Rattle.slack_base.specs.declared.messages.Ask.TheVariants.{Flush}
@@ -24,7 +25,7 @@ due_in d None = d
 due_in d (Some s) = s
 
 module _ (t : ℕ) (i : Id) (l g settled due : ℕ) (own : Bool) (m : Words) (parts : ℕ → Part) (d : Delays) (early : Bool)
-    (snoop : (parts i.core).snoop ≡ Some (due, own)) (now : due ≤ t) (soon : t ≤ g) (low : i.core < 8) where
+    (snoop : (parts i.core).snoop ≡ Some (due, own)) (now : due ≤ t) (soon : t ≤ g) (low : i.core < MOST_CORES) where
   unsnooped : (parts i.core).snoop ≡ None → ⊥
   unsnooped n = some≢none (due, own) (parts i.core).snoop snoop n
 
@@ -49,7 +50,7 @@ module _ (t : ℕ) (i : Id) (l g settled due : ℕ) (own : Bool) (m : Words) (pa
       subst (λ b. IsRow t i l g settled (changed i.core (snooped_part b (parts i.core)) parts) (row d m (Flush i l (words_in (parts i.core).held)) (Moving o r x) (owns i.core (Moving o r x)) early)) kind
       (flush_row t i l g settled o r m parts d soon low s.low same s.apart s.asked k.punctual k.settled there s.only x (owns i.core (Moving o r x)) early refl (parts i.core).held refl)
 
-snoop_served : (t grant line due : ℕ) (own : Bool) (d : Delays) (id : Id) (x : Line) → (x.parts id.core).snoop ≡ Some (due, own) → due ≤ t → t ≤ grant → id.core < 8
+snoop_served : (t grant line due : ℕ) (own : Bool) (d : Delays) (id : Id) (x : Line) → (x.parts id.core).snoop ≡ Some (due, own) → due ≤ t → t ≤ grant → id.core < MOST_CORES
     → Invariant t x → IsServed t d grant (Flush id line (words_in (x.parts id.core).held)) (with_part id.core (snooped_part own (x.parts id.core)) x)
 unfolding serve
 snoop_served t grant line due own d id x snoop now soon low k =
@@ -59,7 +60,7 @@ snoop_served t grant line due own d id x snoop now soon low k =
 pub snoops : Snoops
 snoops t c due grant line own d id x snoop now soon core low k =
     subst (λ j. IsServed t d grant (Flush id line (words_in (x.parts j).held)) (with_part j (snooped_part own (x.parts j)) x)) core
-    (snoop_served t grant line due own d id x (subst (λ j. (x.parts j).snoop ≡ Some (due, own)) (sym core) snoop) now soon (subst (λ j. j < 8) (sym core) low) k)
+    (snoop_served t grant line due own d id x (subst (λ j. (x.parts j).snoop ≡ Some (due, own)) (sym core) snoop) now soon (subst (λ j. j < MOST_CORES) (sym core) low) k)
 
 module _ (m : Words) (c : ℕ) (parts : ℕ → Part) (h : HeldLine) (held : (parts c).held ≡ Some h) (clean : h.held ≢ M) where
   own_same : (s : Held) → s ≢ M → IsAloneAs m h.words s → h.words ≡ m

@@ -6,6 +6,7 @@ use Rattle.std.proofs.lemmas.Bool.{cases_eq, cases_Bool, eq-eqb, ne_eqb}
 use Rattle.std.proofs.lemmas.Bool.Decides.{nat_tests}
 use Rattle.std.proofs.lemmas.List.Elements.{All-head, All-tail, All-append, All-filter, All-weaker, filter_passes}
 use mathlib.Core.Path.{fun_ext}
+use Rattle.slack_base.specs.declared.bounds.TheConstants.{MOST_CORES}
 use Rattle.slack_base.specs.declared.configs.RawConfig.{RawConfig}
 use Rattle.slack_base.specs.declared.messages.Ask.{Ask}
 use Rattle.slack_base.specs.declared.messages.Post.{Post}
@@ -46,7 +47,7 @@ use Rattle.coherence_law.proofs.World.{upd, upd_at, upd_each, to_core, IsPartOf,
 -- what the numbers of a machine keep to
 pub record IsFit (config : RawConfig) (code : CodeValue) : Type 0 where
   pub whole : length code.bytes ≡ 16 * lines_of config
-  pub cores : config.cores ≤ 8
+  pub cores : config.cores ≤ MOST_CORES
   pub buses : 0 < config.buses
   pub snoop : 1 ≤ config.snoop
   pub memory : config.snoop < config.memory_delay
@@ -191,13 +192,13 @@ module _ (config : RawConfig) (code : CodeValue) (fit : IsFit config code) (t : 
         let lines = lines_of config in
         let all : All (λ q. q.line < lines) (p ∷ rest) = subst (λ ps. All (λ q. q.line < lines) ps) at (w.cores.low c) in
         let own : p.line < lines = All-head (λ q. q.line < lines) p rest all in
-        let eight : c < 8 = let few = fit.cores in omega arith in
+        let few_cores : c < MOST_CORES = let few = fit.cores in omega arith in
         let step = applied_step config code.base id p.line core (w.cores.sound c low) own p.kind in
         let out = applied p.kind code.base p.line id core in
         ask_served (upd c out.0 inner) (upd c rest base) sent chans w.asked w.entry w.has w.named w.console
         (cores_after inner base out.0 rest w.cores (applied_cache p.kind code.base p.line id core (w.cores.cache c)) step.sound (step.same ∙ w.cores.number c) (All-tail (λ q. q.line < lines) p rest all))
         w.late c low out.1 (from_step core n out.1 (w.cores.number c) step.ask)
-        (applied_lines lines t w.asked inner base sent w.entry c p rest at now own w.lines (w.cores.cache c) (w.cores.sound c low).cache.lines id (w.cores.number c) eight code.base)
+        (applied_lines lines t w.asked inner base sent w.entry c p rest at now own w.lines (w.cores.cache c) (w.cores.sound c low).cache.lines id (w.cores.number c) few_cores code.base)
 
     -- what is after two lists of asks is what is after both
     pub joined : (inner : ℕ → HartValue) (base : ℕ → List Post) (sent : List Post) (chans : List ChannelValue) (a b : List Ask)
@@ -240,10 +241,10 @@ module _ (config : RawConfig) (code : CodeValue) (fit : IsFit config code) (t : 
         (let here = inner c in
         let id = id_at t here n in
         let lines = lines_of config in
-        let eight : c < 8 = let few = fit.cores in omega arith in
+        let few_cores : c < MOST_CORES = let few = fit.cores in omega arith in
         let step = stepped_step config code fit.whole id here (w.cores.sound c low) in
         let out = stepped code id here in
-        let does = stepped_lines lines t w.asked inner base sent w.entry c w.lines (w.cores.cache c) id (w.cores.number c) eight code fit.whole in
+        let does = stepped_lines lines t w.asked inner base sent w.entry c w.lines (w.cores.cache c) id (w.cores.number c) few_cores code fit.whole in
         let cores = subst (λ b. AreCores config (upd c out.0 inner) b) (upd_same c (base c) base refl)
         (cores_after inner base out.0 (base c) w.cores does.cache step.sound (step.same ∙ w.cores.number c) (w.cores.low c)) in
         ask_served (upd c out.0 inner) base sent chans does.asked w.entry w.has w.named w.console cores w.late c low out.1 (from_step here n out.1 (w.cores.number c) step.ask) does.stepped)

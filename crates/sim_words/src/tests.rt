@@ -86,10 +86,10 @@ const VALUES: [Refused; 23] = [
     (b"run --notes o\xff", WordFault::Value { place: 2 }),
     (b"run --check yes", WordFault::Value { place: 2 }),
     (b"gen --check On", WordFault::Value { place: 2 }),
-    (b"run --cores 9 --ways x", WordFault::Number { place: 4 }),
+    (b"run --cores 17 --ways x", WordFault::Number { place: 4 }),
     (
-        b"run --cores 9",
-        WordFault::Bound(ConfigFault::Cores { given: 9 }),
+        b"run --cores 17",
+        WordFault::Bound(ConfigFault::Cores { given: 17 }),
     ),
 ];
 
@@ -140,8 +140,8 @@ const BOUNDS: [Refused; 38] = [
         WordFault::Bound(ConfigFault::Cores { given: 0 }),
     ),
     (
-        b"run --cores 9",
-        WordFault::Bound(ConfigFault::Cores { given: 9 }),
+        b"run --cores 17",
+        WordFault::Bound(ConfigFault::Cores { given: 17 }),
     ),
     (
         b"run --base 2048",
@@ -172,8 +172,8 @@ const BOUNDS: [Refused; 38] = [
         WordFault::Bound(ConfigFault::Memory { given: 4095 }),
     ),
     (
-        b"run --memory 4198400",
-        WordFault::Bound(ConfigFault::Memory { given: 4198400 }),
+        b"run --memory 16781312",
+        WordFault::Bound(ConfigFault::Memory { given: 16781312 }),
     ),
     (
         b"run --cores 2 --memory 4096",
@@ -362,16 +362,16 @@ type Accepted = (&'static [u8], RawConfig);
 const ACCEPTED: [Accepted; 36] = [
     (b"run", DEFAULT),
     (b"run --cores 1", RawConfig { cores: 1, ..DEFAULT }),
-    (b"run --cores 8", RawConfig { cores: 8, ..DEFAULT }),
+    (b"run --cores 16", RawConfig { cores: 16, ..DEFAULT }),
     (b"run --cores 007", RawConfig { cores: 7, ..DEFAULT }),
     (b"run --cores 0000000007", RawConfig { cores: 7, ..DEFAULT }),
     (b"run --base 4096", RawConfig { base: 4096, ..DEFAULT }),
     (b"list --base 4293918720", RawConfig { base: 4293918720, ..DEFAULT }),
     (b"run --base 4294963200 --memory 4096", RawConfig { base: 4294963200, memory: 4096, ..DEFAULT }),
     (b"run --memory 4096", RawConfig { memory: 4096, ..DEFAULT }),
-    (b"run --memory 4194304", RawConfig { memory: 4194304, ..DEFAULT }),
+    (b"run --memory 16777216", RawConfig { memory: 16777216, ..DEFAULT }),
     (b"gen --memory 131072", RawConfig { memory: 131072, ..DEFAULT }),
-    (b"run --cores 8 --memory 32768", RawConfig { cores: 8, memory: 32768, ..DEFAULT }),
+    (b"run --cores 16 --memory 65536", RawConfig { cores: 16, memory: 65536, ..DEFAULT }),
     (b"run --sets 1", RawConfig { sets: 1, ..DEFAULT }),
     (b"run --sets 64", RawConfig { sets: 64, ..DEFAULT }),
     (b"run --ways 1", RawConfig { ways: 1, ..DEFAULT }),

@@ -16,7 +16,7 @@ use Rattle.slacksim.specs.declared.answers.Answer.TheVariants.{ReadFault, TooLon
 
 -- the most bytes that an input may have
 abbrev pub most_bytes : ℕ
-most_bytes = 8388608
+most_bytes = 16781312
 
 -- the image that a file gives, for the memory of these numbers
 abbrev pub image_told : RawConfig → List ℕ → Result Image ImageFault

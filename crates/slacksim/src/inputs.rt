@@ -10,7 +10,7 @@ use slack_base::ByteList;
 use std::alloc::Global;
 
 /// The most bytes that an input may have.
-pub const MOST_BYTES: u64 = 8388608;
+pub const MOST_BYTES: u64 = 16781312;
 
 /// All bytes of the source, for a command that reads it. The command `gen` reads nothing.
 pub fn read_input<S: Source>(

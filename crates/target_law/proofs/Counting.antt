@@ -6,8 +6,8 @@ use Rattle.slack_base.specs.declared.notes.Interval.{Interval}
 use Rattle.slack_base.specs.declared.notes.Interval.TheVariants.{Kept, Rolled, Bounded}
 use Rattle.target_law.specs.Ticks.{cycles_of, replayed_of}
 
--- eight cores at most, and a sum below 2^32
-pub product_within : (cores sum : ℕ) → cores ≤ 8 → sum < 4294967296 → cores * sum < 18446744073709551616
+-- sixteen cores at most, and a sum below 2^32
+pub product_within : (cores sum : ℕ) → cores ≤ 16 → sum < 4294967296 → cores * sum < 18446744073709551616
 product_within cores sum few low = let most = mul-le-mul_right sum few in omega (arith, most)
 
 -- no more cycles are replayed than there are

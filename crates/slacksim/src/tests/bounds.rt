@@ -34,25 +34,30 @@ fn the_largest_program(rt: HostRuntime) -> Result<(), Fail> {
     Ok(())
 }
 
-/// An input of exactly the most bytes is looked at, and one of a byte more isn't.
+/// A flat file of exactly the most bytes is read, and finds no memory that holds it; one of a byte more isn't read.
 #[test]
 fn the_largest_input(rt: HostRuntime) -> Result<(), Fail> {
-    let mut bytes = vec![in rt.alloc(); 0u8; 8388608]?;
+    let mut bytes = Vec::new(rt.alloc());
+    bytes.extend_from_slice(b"SLK1\0\0\0\0\0\0\0\0")?;
+    bytes.extend_from_slice(&16781296u32.to_le_bytes())?;
+    let zeros = vec![in rt.alloc(); 0u8; 16781296]?;
+    bytes.extend_from_slice(&zeros)?;
     let whole = call(&rt, &["run"], bytes.as_slice())?;
-    assert_eq!(rt; whole.finish.answer, Answer::BadImage(ImageFault::Magic));
+    let outside = ImageFault::Outside { index: 0 };
+    assert_eq!(rt; whole.finish.answer, Answer::BadImage(outside));
     bytes.push(0)?;
     let long = call(&rt, &["run"], bytes.as_slice())?;
-    assert_eq!(rt; long.finish.answer, Answer::TooLong { taken: 8388609 });
+    assert_eq!(rt; long.finish.answer, Answer::TooLong { taken: 16781313 });
     assert_eq!(rt; long.finish.status, 3);
     assert!(rt; long.text.is_empty());
     Ok(())
 }
 
 #[test]
-fn eight_cores_and_the_largest_memory(rt: HostRuntime) -> Result<(), Fail> {
-    let words = ["gen", "--cores", "8", "--memory", "4194304"];
+fn sixteen_cores_and_the_largest_memory(rt: HostRuntime) -> Result<(), Fail> {
+    let words = ["gen", "--cores", "16", "--memory", "16777216"];
     let outcome = call(&rt, &words, b"")?;
-    assert!(rt; outcome.text.starts_with(b"gen 1 words 1005\ncores 8\n"));
+    assert!(rt; outcome.text.starts_with(b"gen 1 words 1005\ncores 16\n"));
     assert_eq!(rt; outcome.finish.answer, Answer::Done { all_zero: true });
     Ok(())
 }

@@ -130,8 +130,8 @@ const REFUSED: [Refused; 11] = [
     (&["run", "--cores", "-1"], WordFault::Form { place: 2 }),
     (&["run", "--cores", "+1"], WordFault::Number { place: 2 }),
     (
-        &["run", "--cores", "9"],
-        WordFault::Bound(ConfigFault::Cores { given: 9 }),
+        &["run", "--cores", "17"],
+        WordFault::Bound(ConfigFault::Cores { given: 17 }),
     ),
     (&["run", "--mode", "fast"], WordFault::Value { place: 2 }),
     (

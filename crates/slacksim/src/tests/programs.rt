@@ -11,7 +11,7 @@ const NOT_ALL_ZERO: Answer = Answer::Done { all_zero: false };
 pub const STORES: &[u8] = b"lui x8, 1\nsw x10, 0(x8)\naddi x17, x0, 93\naddi x10, x0, 0\necall";
 
 /// Calls whose inputs are assembler texts, of which the images are run.
-const PROGRAMS: [Case; 23] = [
+const PROGRAMS: [Case; 24] = [
     Case {
         words: &["run"],
         input: b"addi x17, x0, 93\naddi x10, x0, 0\necall",
@@ -26,6 +26,13 @@ const PROGRAMS: [Case; 23] = [
         status: 0,
         answer: ALL_ZERO,
         text: b"cores 2\ncycles 9\ncore 0 exit 0 at 8 retired 6 accesses 0 misses 0 retries 0 waits 0 snoops 0 writebacks 0\ncore 1 exit 0 at 8 retired 6 accesses 0 misses 0 retries 0 waits 0 snoops 0 writebacks 0\nbus 0 asks 0 retries 0 free 0\nconsole 2\nAB\n",
+    },
+    Case {
+        words: &["run", "--cores", "16"],
+        input: b"addi x17, x0, 1\naddi x10, x10, 65\necall\naddi x17, x0, 93\naddi x10, x0, 0\necall",
+        status: 0,
+        answer: ALL_ZERO,
+        text: b"cores 16\ncycles 9\ncore 0 exit 0 at 8 retired 6 accesses 0 misses 0 retries 0 waits 0 snoops 0 writebacks 0\ncore 1 exit 0 at 8 retired 6 accesses 0 misses 0 retries 0 waits 0 snoops 0 writebacks 0\ncore 2 exit 0 at 8 retired 6 accesses 0 misses 0 retries 0 waits 0 snoops 0 writebacks 0\ncore 3 exit 0 at 8 retired 6 accesses 0 misses 0 retries 0 waits 0 snoops 0 writebacks 0\ncore 4 exit 0 at 8 retired 6 accesses 0 misses 0 retries 0 waits 0 snoops 0 writebacks 0\ncore 5 exit 0 at 8 retired 6 accesses 0 misses 0 retries 0 waits 0 snoops 0 writebacks 0\ncore 6 exit 0 at 8 retired 6 accesses 0 misses 0 retries 0 waits 0 snoops 0 writebacks 0\ncore 7 exit 0 at 8 retired 6 accesses 0 misses 0 retries 0 waits 0 snoops 0 writebacks 0\ncore 8 exit 0 at 8 retired 6 accesses 0 misses 0 retries 0 waits 0 snoops 0 writebacks 0\ncore 9 exit 0 at 8 retired 6 accesses 0 misses 0 retries 0 waits 0 snoops 0 writebacks 0\ncore 10 exit 0 at 8 retired 6 accesses 0 misses 0 retries 0 waits 0 snoops 0 writebacks 0\ncore 11 exit 0 at 8 retired 6 accesses 0 misses 0 retries 0 waits 0 snoops 0 writebacks 0\ncore 12 exit 0 at 8 retired 6 accesses 0 misses 0 retries 0 waits 0 snoops 0 writebacks 0\ncore 13 exit 0 at 8 retired 6 accesses 0 misses 0 retries 0 waits 0 snoops 0 writebacks 0\ncore 14 exit 0 at 8 retired 6 accesses 0 misses 0 retries 0 waits 0 snoops 0 writebacks 0\ncore 15 exit 0 at 8 retired 6 accesses 0 misses 0 retries 0 waits 0 snoops 0 writebacks 0\nbus 0 asks 0 retries 0 free 0\nconsole 16\nABCDEFGHIJKLMNOP\n",
     },
     // A branch that is taken to half a word is a trap.
     Case {
