@@ -100,12 +100,27 @@ def output(config, image, *words):
     return subprocess.run([PROGRAM, "run", *options, *words], input=image, capture_output=True).stdout
 
 
-def random_steps(rng, cores):
-    """Steps, as the command line has them and one by one. Some are of a core that isn't there."""
-    items = []
+def any_steps(rng, cores):
+    """Some are of a core that isn't there."""
     for _ in range(rng.choice([0, 5, 40, 200])):
         kind = rng.choice("ttssp")
-        items.append((kind, rng.randrange(cores + 1), rng.choice([1, 1, 2, 3, 8, 40]) if kind == "t" else rng.choice([1, 1, 2])))
+        yield kind, rng.randrange(cores + 1), rng.choice([1, 1, 2, 3, 8, 40]) if kind == "t" else rng.choice([1, 1, 2])
+
+
+def steps_in_turn(rng, cores):
+    """All cores go on in turn; then one runs to the end, and the others go on by themselves: so lines may break."""
+    for _ in range(rng.randrange(60)):
+        yield from (step for core in range(cores) for step in [("t", core, 1), ("s", core, 1), ("p", core, 1)])
+    ahead = rng.randrange(cores)
+    yield "t", ahead, 1000
+    others = [core for core in range(cores) if core != ahead]
+    for _ in range(rng.randrange(100)):
+        yield from (step for core in others for step in [("t", core, 1), ("s", core, 1), ("p", core, 1)])
+
+
+def random_steps(rng, cores):
+    """Steps, as the command line has them and one by one."""
+    items = list(rng.choice([any_steps, steps_in_turn])(rng, cores))
     text = ",".join(f"{kind}{core}x{count}" if count > 1 else f"{kind}{core}" for kind, core, count in items)
     return text, [(kind, core) for kind, core, count in items for _ in range(count)]
 
@@ -117,13 +132,20 @@ def lockstep_differs(config, base, code, image):
     return checked != machine.report() + b"coherence 0\n" or output(config, image, "--format", "dump") != machine.dump()
 
 
+def script_config(rng, config):
+    """Mostly two cores, and one interval that ends before they do: so one may run ahead, and lines may break."""
+    limit = rng.choice([rng.randrange(20, 300), rng.randrange(20, 300), 3000])
+    cores = rng.choice([2, 2, 2, config["cores"]])
+    return {**config, "cores": cores, "interval": rng.choice([20, 100, limit, limit]), "limit": limit}
+
+
 def script_differs(rng, config, base, code, image):
-    config = {**config, "interval": rng.choice([1, 20, 100, 500])}
+    config = script_config(rng, config)
     text, steps = random_steps(rng, config["cores"])
     machine = Machine(config, base, [(base, code)])
     notes = script(machine, steps)
-    words = ["--mode", "script", "--notes", "on", *(["--steps", text] if text else [])]
-    if output(config, image, *words) == machine.report() + notes.encode():
+    words = ["--mode", "script", "--notes", "on", "--check", "on", *(["--steps", text] if text else [])]
+    if output(config, image, *words) == machine.report() + machine.coherence() + notes.encode():
         return False
     print(" ".join(words))
     return True
@@ -134,8 +156,8 @@ def quantum_differs(rng, config, base, code, image):
     cycles = rng.choice([1, 2, 3, 5, 16, 64, 200])
     machine = Machine(config, base, [(base, code)])
     notes = quantum(machine, cycles)
-    words = ["--mode", "quantum", "--quantum", str(cycles), "--notes", "on"]
-    if output(config, image, *words) == machine.report() + notes.encode():
+    words = ["--mode", "quantum", "--quantum", str(cycles), "--notes", "on", "--check", "on"]
+    if output(config, image, *words) == machine.report() + machine.coherence() + notes.encode():
         return False
     print(" ".join(words))
     return True

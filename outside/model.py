@@ -338,6 +338,16 @@ class Machine:
         counts = " ".join(f"{name} {core.counts[name]}" for name in COUNTS)
         return f"core {core.number} {end} {counts}"
 
+    def is_coherent(self, line):
+        """A core that may write the line holds it alone, and what is held unchanged is what memory has."""
+        held = [one for one in (core.find(line) for core in self.cores) if one]
+        alone = not any(one.state in "EM" for one in held) or len(held) == 1
+        return alone and all(one.state == "M" or one.words == self.entry(line).words for one in held)
+
+    def coherence(self):
+        broken = [line for line in range(self.config["memory"] // 16) if not self.is_coherent(line)]
+        return "".join([f"coherence {len(broken)}\n", *(f"broken line {line}\n" for line in broken)]).encode()
+
     def dump(self):
         lines = []
         for line in range(self.config["memory"] // 16):
