@@ -48,6 +48,10 @@ apart_range : (from n : ℕ) → Apart (range_with_len from n)
 apart_range from zero = tt
 apart_range from (suc n) = (later_apart from (from + 1) n (omega arith), apart_range (from + 1) n)
 
+apart_cores : Apart all_cores
+unfolding all_cores
+apart_cores = apart_range 0 MOST_CORES
+
 -- the number is in the list
 abbrev pub is_in : ℕ → List ℕ → Bool
 is_in k xs = list_any (λ j. j == k) xs
@@ -69,10 +73,14 @@ in_range k from (suc n) low high = elim (cases_eq from k) [
   | inr n0 ↦ rw (ne_eqb from k n0) (in_range k (from + 1) n (omega arith) (omega arith))
 ]
 
+is_core : (k : ℕ) → k < MOST_CORES → is_in k all_cores ≡ true
+unfolding all_cores
+is_core k low = in_range k 0 MOST_CORES (omega arith) (omega arith)
+
 pub member_in : (cores c k : ℕ) → k ≢ c → IsMember cores k → is_in k (others cores c) ≡ true
 member_in cores c k n h =
     in_filter (is_other cores c) k all_cores
-    (and_from (not (k == c)) (holds cores k) (not_from_false (k == c) (ne_eqb k c n)) h.among) (in_range k 0 MOST_CORES (omega arith) (omega (arith, h.low)))
+    (and_from (not (k == c)) (holds cores k) (not_from_false (k == c) (ne_eqb k c n)) h.among) (is_core k h.low)
 
 -- the one that asks isn't among them
 not_in_filter : (q : ℕ → Bool) (k : ℕ) (xs : List ℕ) → q k ≡ false → is_in k (filter q xs) ≡ false
@@ -88,7 +96,7 @@ pub asking_out : (cores c : ℕ) → is_in c (others cores c) ≡ false
 asking_out cores c = not_in_filter (is_other cores c) c all_cores (rw (eq-eqb c c refl) refl)
 
 pub apart_others : (cores c : ℕ) → Apart (others cores c)
-apart_others cores c = apart_filter (is_other cores c) all_cores (apart_range 0 MOST_CORES)
+apart_others cores c = apart_filter (is_other cores c) all_cores apart_cores
 
 module _ (id : Id) (line grant delay : ℕ) where
   abbrev pub invalidation : ℕ → Post

@@ -36,9 +36,11 @@ few_so_far f p xs i = omega (arith, length-map (filter p (take i xs)) f, few_pas
 
 -- each number stands at its own place
 pub core_at : (c d : ℕ) → c < MOST_CORES → get_or all_cores c d ≡ c
+unfolding all_cores
 core_at c d low = let at = get_or-range_with_len 0 MOST_CORES c d low in omega (arith, at)
 
 pub count_of_cores : length all_cores ≡ MOST_CORES
+unfolding all_cores
 count_of_cores = length-range_with_len 0 MOST_CORES
 
 -- the one that asks isn't among the others, so there is room for one more

@@ -21,7 +21,7 @@ abbrev pub is_other : ℕ → ℕ → ℕ → Bool
 is_other cores asking core = not (core == asking) && holds cores core
 
 -- the cores that a machine may have, in the order of their numbers
-abbrev pub all_cores : List ℕ
+unfoldable pub all_cores : List ℕ
 all_cores = range_with_len 0 MOST_CORES
 
 -- the members of the set but for the one that asks, in the order of their numbers

@@ -118,14 +118,14 @@ fn a_shared_line_is_taken(rt: HostRuntime) -> Result<(), Fail> {
     Ok(())
 }
 
-/// Eight cores share the line, and one of them takes it: the others are told in their order.
+/// Sixteen cores share the line, and one of them takes it: the others are told in their order.
 #[test]
 fn a_line_of_all_cores(rt: HostRuntime) -> Result<(), Fail> {
     let mut entry = shared();
-    for core in 2..8 {
+    for core in 2..16 {
         entry = after(&entry, core, Read, 20);
     }
-    assert_eq!(rt; entry.view(), view_of(Shared { cores: 255 }, 31, 6));
+    assert_eq!(rt; entry.view(), view_of(Shared { cores: 65535 }, 31, 6));
     let posts = [
         (0, 33, Invalidate),
         (1, 33, Invalidate),
@@ -134,6 +134,14 @@ fn a_line_of_all_cores(rt: HostRuntime) -> Result<(), Fail> {
         (5, 33, Invalidate),
         (6, 33, Invalidate),
         (7, 33, Invalidate),
+        (8, 33, Invalidate),
+        (9, 33, Invalidate),
+        (10, 33, Invalidate),
+        (11, 33, Invalidate),
+        (12, 33, Invalidate),
+        (13, 33, Invalidate),
+        (14, 33, Invalidate),
+        (15, 33, Invalidate),
         (3, 41, reply(true, 6)),
     ];
     let view = view_of(Owned { core: 3 }, 42, 6);

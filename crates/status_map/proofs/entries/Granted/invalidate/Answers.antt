@@ -32,11 +32,15 @@ loop-core-preserved c =
       | else-is_other w ↦ rw (fails_more f p all_cores i 0 within (ap p itself ∙ sym c.is_other.ensures ∙ w.if-is_other.false), ← c.loop-core.invariant) w.out-is
     ]
 
+pub returns-clause-posts : goal.returns-clause-posts
+returns-clause-posts c =
+    let all : take c.loop-core.core all_cores ≡ all_cores = take_all _ _ (omega (arith, count_of_cores)) in
+    c.loop-core.invariant ∙ rw all refl
+
 pub returns-clause-room : goal.returns-clause-room
 returns-clause-room c =
     let a = c.args.self.now in
     let f = sent a.id a.line a.grant c.args.delay in
-    let p = is_other c.args.cores a.id.core in
     let all : take c.loop-core.core all_cores ≡ all_cores = take_all _ _ (omega (arith, count_of_cores)) in
     let posts : c.loop-core.out ≡ map f (others c.args.cores a.id.core) = c.loop-core.invariant ∙ rw all refl in
     omega (arith, ap length posts, length-map (others c.args.cores a.id.core) f, fewer_others c.args.cores a.id.core c.requires.core)
