@@ -1,5 +1,5 @@
 -- No line breaks in the machine that is handed back of a run that ended as lockstep does.
-use Rattle.std.proofs.Common.{◌≡◌, ◌∙◌, ℕ, Bool, true, List, [], Option, Result, Ok, Err, IsOkAnd, IsTrue, inl, inr, codes, refl, ap, subst}
+use Rattle.std.proofs.Common.{◌≡◌, ◌∙◌, ℕ, Bool, true, List, [], Option, IsTrue, inl, inr, codes, refl, ap, subst}
 use Rattle.std.specs.Fmt.{digits}
 use Rattle.slack_base.specs.declared.images.Image.{Image}
 use Rattle.slack_base.specs.declared.notes.Interval.{Interval}
@@ -21,11 +21,7 @@ use Rattle.slacksim.specs.RunValues.{RunValue, run_of}
 use Rattle.slacksim.specs.Texts.{coherence_in}
 use Rattle.slacksim.specs.Writing.{Wrote}
 use Rattle.slacksim.specs.declared.answers.Answer.{Answer}
-
--- an answer that is Ok, and what is so of it
-found : {T E : Type 0} (r : Result T E) (P : T → Type 0) → IsOkAnd r P → (x : T) × (r ≡ Ok x) × P x
-found (Ok x) P h = (x, refl, h)
-found (Err e) P h = absurd h
+use Rattle.slacksim.proofs.Found.{found}
 
 -- the text about no line
 says_none : (check : Bool) (m : StateValue HartValue ChannelValue) → breaks_of m ≡ [] → check ≡ true → coherence_in check m ≡ codes "coherence 0\n"

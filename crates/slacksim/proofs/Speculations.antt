@@ -1,5 +1,5 @@
 -- What was written and handed back of a run in speculative mode is what cycle-by-cycle simulation gives.
-use Rattle.std.proofs.Common.{◌≡◌, ◌∙◌, ◌*◌, ℕ, List, Option, Result, Ok, Err, IsOkAnd, IsTrue, inl, inr, sum_by, refl, sym, ap, subst}
+use Rattle.std.proofs.Common.{◌≡◌, ◌∙◌, ◌*◌, ℕ, List, Option, IsTrue, inl, inr, sum_by, refl, sym, ap, subst}
 use Rattle.slack_base.specs.declared.images.Image.{Image}
 use Rattle.slack_base.specs.declared.notes.Interval.{Interval}
 use Rattle.io_edge.specs.Holds.{Holds}
@@ -21,11 +21,7 @@ use Rattle.slacksim.specs.Outputs.{IsRun, IsRunOutput, IsGenOutput, IsOutputBy}
 use Rattle.slacksim.specs.RunValues.{RunValue, run_of}
 use Rattle.slacksim.specs.Writing.{Wrote, IsWritten}
 use Rattle.slacksim.specs.declared.answers.Answer.{Answer}
-
--- an answer that is Ok, and what is so of it
-found : {T E : Type 0} (r : Result T E) (P : T → Type 0) → IsOkAnd r P → (x : T) × (r ≡ Ok x) × P x
-found (Ok x) P h = (x, refl, h)
-found (Err e) P h = absurd h
+use Rattle.slacksim.proofs.Found.{found}
 
 module _ (holds : Holds) (order : OrderValue) (mode_is : order.mode ≡ Speculative) where
   speculated : (image : Image) (notes : List Interval) (m : StateValue HartValue ChannelValue) (run : RunValue)

@@ -4,7 +4,7 @@ use Rattle.slack_base.specs.Numbers.{numbers_of, lines_of}
 use Rattle.timed_core.specs.Code.{code_of}
 use Rattle.lockstep_model.specs.Views.{machine_of}
 use Rattle.stat_report.specs.Dump.{lines_in}
-use Rattle.slacksim.proofs.Lines.{lines_within}
+use Rattle.coherence_law.proofs.Sizes.{lines_within}
 use Rattle.slacksim.proofs.runs.run_by.Goals as goal
 
 pub returns-clause-cores : goal.returns-clause-cores
