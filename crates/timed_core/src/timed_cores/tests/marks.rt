@@ -28,7 +28,7 @@ const FIRST_COUNTS: Counts = Counts {
 };
 
 /// What is told after cycle 1.
-const AT_MARK: Told = Told {
+pub const AT_MARK: Told = Told {
     pc: 4100,
     x5: 0,
     held: None,
