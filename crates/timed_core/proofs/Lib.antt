@@ -1,12 +1,15 @@
 pub mod AccessSteps
 pub mod Due
 pub mod Fetching
+pub mod Flagging
 pub mod Hits
 pub mod OwnCaches
 pub mod InstructionSteps
 pub mod Keeping
 pub mod Lawful
+pub mod Marking
 pub mod PostSteps
 pub mod Reaching
+pub mod Restoring
 pub mod Steps
 pub mod Stretches

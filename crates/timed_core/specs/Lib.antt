@@ -2,10 +2,14 @@ pub mod Accesses
 pub mod Code
 pub mod Cores
 pub mod Effects
+pub mod Journals
 pub mod Kept
 pub mod Laws
+pub mod Noting
 pub mod Outcomes
+pub mod Parts
 pub mod Posts
 pub mod Stretches
 pub mod Ticks
 pub mod Touches
+pub mod Views

@@ -8,13 +8,15 @@ mod instructions;
 mod posts;
 mod stretches;
 
+use crate::marks::Parts;
+use crate::noted_caches::NotedCache;
 use crate::outcomes::Outcome;
-use mesi_cache::{Cache, HeldLine};
+use mesi_cache::HeldLine;
 use slack_base::{Config, CoreEnd, Counts, OutOfMemory, Trap, raised};
 use std::alloc::Global;
 use std::marker::Model;
 
-/// A hart with its cache. A contract sees the record of its fields.
+/// A hart with its cache. A contract sees the record of its fields, and the cache as it was at its mark.
 #[derive(Drop)]
 pub struct Hart {
     number: u32,
@@ -22,7 +24,7 @@ pub struct Hart {
     registers: [u32; 32],
     /// The address of the word that LR reserved, until the reservation is lost.
     reservation: Option<u32>,
-    cache: Cache,
+    cache: NotedCache,
     /// The cycles that the last instruction still takes.
     busy: u32,
     /// A line was asked for, and the answer hasn't come.
@@ -33,20 +35,24 @@ pub struct Hart {
 
 impl Model for Hart {
     ghost use Rattle.slack_base.specs.declared.bounds.TheConstants.{TOP};
-    ghost use Rattle.timed_core.specs.Cores.{HartValue, IsBy};
+    ghost use Rattle.timed_core.specs.Cores.{IsBy};
+    ghost use Rattle.timed_core.specs.Views.{NotedHart};
 
-    ghost Value = { HartValue };
+    ghost Value = { NotedHart };
 
     ghost view = { λ c. record {
-      number = c.number;
-      pc = c.pc;
-      registers = c.registers;
-      reservation = c.reservation;
-      cache = c.cache;
-      busy = c.busy;
-      waiting = c.waiting;
-      ended = c.ended;
-      counts = c.counts;
+      value = record {
+        number = c.number;
+        pc = c.pc;
+        registers = c.registers;
+        reservation = c.reservation;
+        cache = c.cache.value;
+        busy = c.busy;
+        waiting = c.waiting;
+        ended = c.ended;
+        counts = c.counts;
+      };
+      saved = c.cache.saved;
     } };
 
     ghost invariant = { λ c. IsBy TOP c.ended };
@@ -61,16 +67,18 @@ fn line_number(base: u32, address: u32) -> u32
 }
 
 impl Hart {
-    ghost use Rattle.std.specs.Prelude.{◌≡◌, ◌+◌, ◌<◌, ◌≤◌, ◌%◌, IfOk, slice_index};
+    ghost use Rattle.std.specs.Prelude.{◌≡◌, ◌+◌, ◌<◌, ◌≤◌, ◌%◌, IfOk, IfSome, None, OnErr, OnOk, Some, slice_index};
     ghost use Rattle.slack_base.specs.declared.bounds.TheConstants.{TOP};
     ghost use Rattle.slack_base.specs.Numbers.{numbers_of};
     ghost use Rattle.timed_core.specs.Accesses.{held_in};
+    ghost use Rattle.timed_core.specs.Noting.{AreNotedSince};
+    ghost use Rattle.timed_core.specs.Parts.{hart_of, parts_of};
     ghost use Rattle.timed_core.specs.Cores.{IsBy, first_core, is_running, with_register, completed, goes_on, gives, trapped};
 
     /// A hart before the first cycle.
     pub fn new(alloc: Global, number: u32, config: &Config, entry: u32) -> Result<Hart, OutOfMemory>
         requires { number < config.now.cores }
-        ensures { IfOk result (λ hart. hart ≡ first_core (numbers_of config.now) entry number) }
+        ensures { IfOk result (λ hart. hart ≡ record { value = first_core (numbers_of config.now) entry number; saved = None }) }
     {
         let end = u64::from(config.base) + u64::from(config.memory);
         let mut registers = [0; 32];
@@ -81,7 +89,7 @@ impl Hart {
             pc: entry,
             registers,
             reservation: None,
-            cache: Cache::new(alloc, config.sets, config.ways)?,
+            cache: NotedCache::new(alloc, config.sets, config.ways)?,
             busy: 0,
             waiting: false,
             ended: CoreEnd::Running,
@@ -97,70 +105,114 @@ impl Hart {
         })
     }
 
-    /// An equal hart.
-    pub fn copy(&self) -> Result<Hart, OutOfMemory>
-        ensures { IfOk result (λ hart. hart ≡ self.now) }
+    /// All of the hart but its cache.
+    pub fn parts(&self) -> Parts
+        ensures { result ≡ parts_of self.now.value }
     {
-        Ok(Hart {
+        Parts {
             number: self.number,
             pc: self.pc,
             registers: self.registers,
             reservation: self.reservation,
-            cache: self.cache.copy()?,
             busy: self.busy,
             waiting: self.waiting,
             ended: self.ended,
             counts: self.counts,
-        })
+        }
+    }
+
+    /// Marks the cache. The rest of the hart is to be kept by the caller.
+    pub fn mark(&mut self) -> Result<(), OutOfMemory>
+        ensures ok { OnOk result (self.new ≡ record { value = self.old.value; saved = Some self.old.value.cache }) }
+        ensures err { OnErr result (self.new ≡ self.old) }
+    {
+        self.cache.mark()
+    }
+
+    /// Takes the cache back to its mark, which is used up, and the rest of the hart to these parts.
+    pub fn undo(&mut self, parts: &Parts)
+        ensures marked { IfSome self.old.saved (λ cache. self.new.value ≡ hart_of parts.now cache) }
+        ensures saved { self.new.saved ≡ None }
+    {
+        self.cache.undo();
+        self.take_parts(parts);
+    }
+
+    /// The parts replace all of the hart but its cache.
+    fn take_parts(&mut self, parts: &Parts)
+        ensures { self.new ≡ record self.old { value = hart_of parts.now self.old.value.cache } }
+    {
+        self.number = parts.number;
+        self.pc = parts.pc;
+        self.registers = parts.registers;
+        self.reservation = parts.reservation;
+        self.busy = parts.busy;
+        self.waiting = parts.waiting;
+        self.ended = parts.ended;
+        self.counts = parts.counts;
+    }
+
+    /// Gives up the mark, and leaves the hart as it is.
+    pub fn keep(&mut self)
+        ensures { self.new ≡ record { value = self.old.value; saved = None } }
+    {
+        self.cache.keep();
+    }
+
+    /// How many sets of the cache were noted since the mark.
+    pub fn noted(&self) -> u64
+        ensures { IfSome self.now.saved (λ cache. AreNotedSince cache self.now.value.cache result) }
+    {
+        self.cache.noted()
     }
 
     pub fn number(&self) -> u32
-        ensures { result ≡ self.now.number }
+        ensures { result ≡ self.now.value.number }
     {
         self.number
     }
 
     pub fn pc(&self) -> u32
-        ensures { result ≡ self.now.pc }
+        ensures { result ≡ self.now.value.pc }
     {
         self.pc
     }
 
     pub fn reg(&self, n: u32) -> u32
         requires { n < 32 }
-        ensures { result ≡ slice_index self.now.registers n }
+        ensures { result ≡ slice_index self.now.value.registers n }
     {
         self.registers[n as usize]
     }
 
     pub fn reservation(&self) -> Option<u32>
-        ensures { result ≡ self.now.reservation }
+        ensures { result ≡ self.now.value.reservation }
     {
         self.reservation
     }
 
     /// What the cache holds of a line.
     pub fn held(&self, line: u32) -> Option<HeldLine>
-        ensures { result ≡ held_in self.now.cache line }
+        ensures { result ≡ held_in self.now.value.cache line }
     {
         self.cache.peek(line)
     }
 
     pub fn end(&self) -> CoreEnd
-        ensures end { result ≡ self.now.ended }
+        ensures end { result ≡ self.now.value.ended }
         ensures bound { IsBy TOP result }
     {
         self.ended
     }
 
     pub fn is_running(&self) -> bool
-        ensures { result ≡ is_running self.now.ended }
+        ensures { result ≡ is_running self.now.value.ended }
     {
         self.ended == CoreEnd::Running
     }
 
     pub fn counts(&self) -> Counts
-        ensures { result ≡ self.now.counts }
+        ensures { result ≡ self.now.value.counts }
     {
         self.counts
     }
@@ -169,7 +221,7 @@ impl Hart {
     #[inline(always)]
     fn x(&self, n: u8) -> u32
         requires { n < 32 }
-        ensures { result ≡ slice_index self.now.registers n }
+        ensures { result ≡ slice_index self.now.value.registers n }
     {
         self.registers[n as usize]
     }
@@ -178,7 +230,7 @@ impl Hart {
     #[inline(always)]
     fn write(&mut self, rd: u8, value: u32)
         requires { rd < 32 }
-        ensures { self.new ≡ record self.old { registers = with_register self.old.registers rd value } }
+        ensures { self.new ≡ record self.old { value = record self.old.value { registers = with_register self.old.value.registers rd value } } }
     {
         if rd != 0 {
             self.registers[rd as usize] = value;
@@ -188,8 +240,8 @@ impl Hart {
     /// Completes an instruction of one cycle.
     #[inline(always)]
     fn complete(&mut self, pc: u32) -> Outcome
-        requires { self.old.busy ≡ 0 }
-        ensures after { self.new ≡ completed self.old self.old.registers pc 1 }
+        requires { self.old.value.busy ≡ 0 }
+        ensures after { self.new ≡ record self.old { value = completed self.old.value self.old.value.registers pc 1 } }
         ensures outcome { result ≡ Outcome.Ready }
     {
         self.pc = pc;
@@ -200,8 +252,8 @@ impl Hart {
     /// Completes an instruction of one cycle, and goes on to the next.
     #[inline(always)]
     fn go_on(&mut self) -> Outcome
-        requires { self.old.busy ≡ 0 }
-        ensures after { self.new ≡ goes_on 1 self.old }
+        requires { self.old.value.busy ≡ 0 }
+        ensures after { self.new ≡ record self.old { value = goes_on 1 self.old.value } }
         ensures outcome { result ≡ Outcome.Ready }
     {
         let next = self.pc.wrapping_add(4);
@@ -211,9 +263,9 @@ impl Hart {
     /// Completes an instruction of one cycle that writes a register, and goes on to the next.
     #[inline(always)]
     fn give(&mut self, rd: u8, value: u32) -> Outcome
-        requires free { self.old.busy ≡ 0 }
+        requires free { self.old.value.busy ≡ 0 }
         requires register { rd < 32 }
-        ensures after { self.new ≡ gives rd value 1 self.old }
+        ensures after { self.new ≡ record self.old { value = gives rd value 1 self.old.value } }
         ensures outcome { result ≡ Outcome.Ready }
     {
         self.write(rd, value);
@@ -224,7 +276,7 @@ impl Hart {
     #[inline(always)]
     fn go_on_slowly(&mut self, cost: u32) -> Outcome
         requires { 1 < cost }
-        ensures after { self.new ≡ goes_on cost self.old }
+        ensures after { self.new ≡ record self.old { value = goes_on cost self.old.value } }
         ensures outcome { result ≡ Outcome.Rests }
     {
         self.pc = self.pc.wrapping_add(4);
@@ -238,7 +290,7 @@ impl Hart {
     fn give_slowly(&mut self, rd: u8, value: u32, cost: u32) -> Outcome
         requires register { rd < 32 }
         requires some { 1 < cost }
-        ensures after { self.new ≡ gives rd value cost self.old }
+        ensures after { self.new ≡ record self.old { value = gives rd value cost self.old.value } }
         ensures outcome { result ≡ Outcome.Rests }
     {
         self.write(rd, value);
@@ -248,7 +300,7 @@ impl Hart {
     /// Ends the hart by a trap.
     fn trap(&mut self, cycle: u64, trap: Trap)
         requires { cycle ≤ TOP }
-        ensures { self.new ≡ trapped self.old cycle trap }
+        ensures { self.new ≡ record self.old { value = trapped self.old.value cycle trap } }
     {
         self.ended = CoreEnd::Trapped { at: cycle, trap };
     }
@@ -258,7 +310,7 @@ impl Hart {
     #[inline(never)]
     fn trap_target(&mut self, cycle: u64, target: u32)
         requires { cycle ≤ TOP }
-        ensures { self.new ≡ trapped self.old cycle (Trap.Target target) }
+        ensures { self.new ≡ record self.old { value = trapped self.old.value cycle (Trap.Target target) } }
     {
         self.trap(cycle, Trap::Target { target });
     }
@@ -268,7 +320,7 @@ impl Hart {
     #[inline(never)]
     fn trap_misaligned(&mut self, cycle: u64, address: u32)
         requires { cycle ≤ TOP }
-        ensures { self.new ≡ trapped self.old cycle (Trap.Misaligned address) }
+        ensures { self.new ≡ record self.old { value = trapped self.old.value cycle (Trap.Misaligned address) } }
     {
         self.trap(cycle, Trap::Misaligned { address });
     }
@@ -278,7 +330,7 @@ impl Hart {
     #[inline(never)]
     fn trap_outside(&mut self, cycle: u64, address: u32)
         requires { cycle ≤ TOP }
-        ensures { self.new ≡ trapped self.old cycle (Trap.Outside address) }
+        ensures { self.new ≡ record self.old { value = trapped self.old.value cycle (Trap.Outside address) } }
     {
         self.trap(cycle, Trap::Outside { address });
     }

@@ -8,6 +8,8 @@ mod harts;
 mod kept;
 pub mod laws;
 mod marks;
+mod noted_caches;
+mod noted_sets;
 mod outcomes;
 pub mod timed_cores;
 

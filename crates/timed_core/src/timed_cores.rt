@@ -11,8 +11,8 @@ use stamp_queue::Inbox;
 use std::alloc::Global;
 use std::marker::Model;
 
-/// A core: its registers, its cache, what is counted of it, and the posts that wait for it; and the core as it was at
-/// its mark, where it is marked. The readers tell of the core as it is now.
+/// A core: its registers, its cache, what is counted of it, and the posts that wait for it; and what leads back to the
+/// core as it was at its mark, where it is marked. The readers tell of the core as it is now.
 #[derive(Drop)]
 pub struct TimedCore {
     hart: Hart,
@@ -23,20 +23,25 @@ pub struct TimedCore {
 impl Model for TimedCore {
     ghost use Rattle.slack_base.specs.Inboxes.{CoreValue};
     ghost use Rattle.slack_base.specs.Marks.{Marked};
+    ghost use Rattle.std.specs.Prelude.{◌≡◌, is_some};
     ghost use Rattle.timed_core.specs.Cores.{HartValue};
+    ghost use Rattle.timed_core.specs.Views.{core_then};
 
     ghost Value = { Marked (CoreValue HartValue) };
 
-    ghost view = { λ c. record { value = record { inner = c.hart; inbox = c.inbox }; saved = c.saved } };
+    ghost view = { λ c. record { value = record { inner = c.hart.value; inbox = c.inbox }; saved = core_then c.saved c.hart.saved } };
+
+    ghost invariant = { λ c. is_some c.saved ≡ is_some c.hart.saved };
 }
 
 impl TimedCore {
-    ghost use Rattle.std.specs.Prelude.{◌≡◌, ◌+◌, ◌-◌, ◌<◌, ◌≤◌, ◌++◌, [], IfNone, IfOk, IfSome, OnOk, OnErr, None, Some, not, slice_index};
+    ghost use Rattle.std.specs.Prelude.{◌≡◌, ◌+◌, ◌-◌, ◌<◌, ◌≤◌, ◌++◌, [], IfNone, IfOk, IfSome, IsSome, OnOk, OnErr, None, Some, not, slice_index};
     ghost use Rattle.slack_base.specs.Numbers.{numbers_of};
     ghost use Rattle.slack_base.specs.Inboxes.{with_put, tick_by, ticks_by};
     ghost use Rattle.slack_base.specs.declared.bounds.TheConstants.{TOP};
     ghost use Rattle.timed_core.specs.Accesses.{held_in};
     ghost use Rattle.timed_core.specs.Code.{CodeValue};
+    ghost use Rattle.timed_core.specs.Noting.{AreNotedSince};
     ghost use Rattle.timed_core.specs.Cores.{IsBy, first_core, is_running};
     ghost use Rattle.timed_core.specs.Stretches.{AreTicks, quiet_of};
     ghost use Rattle.timed_core.specs.Ticks.{tick};
@@ -246,13 +251,15 @@ impl TimedCore {
         self.hart.rest(due.saturating_sub(from))
     }
 
-    /// Marks the core as it is now, by a whole copy. An older mark is replaced; where there is no memory for the new
-    /// one, nothing changes.
+    /// Marks the core as it is now: all of it but its cache is copied, and from then on what a set of the cache holds is
+    /// noted before it first changes. Room for the notes is made here, so that a marked core's ticks want no more
+    /// memory than others. An older mark is replaced; where there is no memory for the new one, nothing changes.
     pub fn mark(&mut self) -> Result<(), OutOfMemory>
         ensures ok { OnOk result (self.new ≡ record { value = self.old.value; saved = Some self.old.value }) }
         ensures err { OnErr result (self.new ≡ self.old) }
     {
         let saved = Saved::of(&self.hart, &self.inbox)?;
+        self.hart.mark()?;
         self.saved = Some(saved);
         Ok(())
     }
@@ -264,7 +271,7 @@ impl TimedCore {
         ensures saved { self.new.saved ≡ None }
     {
         if let Some(saved) = self.saved.take() {
-            self.hart = saved.hart;
+            self.hart.undo(&saved.parts);
             self.inbox = saved.inbox;
         }
     }
@@ -274,6 +281,15 @@ impl TimedCore {
         ensures { self.new ≡ record { value = self.old.value; saved = None } }
     {
         self.saved = None;
+        self.hart.keep();
+    }
+
+    /// How many sets of its cache a marked core has noted.
+    pub fn noted(&self) -> u64
+        requires { IsSome self.now.saved }
+        ensures { IfSome self.now.saved (λ saved. AreNotedSince saved.inner.cache self.now.value.inner.cache result) }
+    {
+        self.hart.noted()
     }
 }
 
@@ -285,9 +301,10 @@ fn apply_due(
     cycle: u64,
     out: &mut AskList,
 ) -> Result<(), OutOfMemory>
-    ensures hart { OnOk result (hart.new ≡ (applied_all base cycle 0 hart.old (filter (λ p. nat_le p.due cycle) inbox.old)).0) }
+    ensures hart { OnOk result (hart.new.value ≡ (applied_all base cycle 0 hart.old.value (filter (λ p. nat_le p.due cycle) inbox.old)).0) }
+    ensures saved { hart.new.saved ≡ hart.old.saved }
     ensures inbox { OnOk result (inbox.new ≡ filter (λ p. nat_lt cycle p.due) inbox.old) }
-    ensures asks { OnOk result (out.new ≡ out.old ++ (applied_all base cycle 0 hart.old (filter (λ p. nat_le p.due cycle) inbox.old)).1) }
+    ensures asks { OnOk result (out.new ≡ out.old ++ (applied_all base cycle 0 hart.old.value (filter (λ p. nat_le p.due cycle) inbox.old)).1) }
 {
     let before = out.len();
     while let Some(post) = inbox.take_due(cycle) {
@@ -301,7 +318,7 @@ fn apply_due(
 /// The id of the next ask in a cycle, where so many were sent.
 #[inline(always)]
 fn id_at(cycle: u64, hart: &Hart, sent: usize) -> Id
-    ensures { result ≡ id_at cycle hart.now sent }
+    ensures { result ≡ id_at cycle hart.now.value sent }
 {
     Id {
         cycle,

@@ -16,8 +16,9 @@ impl Hart {
     #[inline(always)]
     pub fn fetch(&mut self, code: &Code, cycle: u64) -> Outcome
         requires top { cycle ≤ TOP }
-        requires ready { IsReady self.old }
-        ensures { DoesAt (λ id. fetched code.now (word_at code.now self.old.pc) id self.old) cycle self.old self.new result }
+        requires ready { IsReady self.old.value }
+        ensures does { DoesAt (λ id. fetched code.now (word_at code.now self.old.value.pc) id self.old.value) cycle self.old.value self.new.value result }
+        ensures saved { self.new.saved ≡ self.old.saved }
     {
         let mut room = Kept::Nothing;
         let kept = code.kept(self.pc, &mut room);
@@ -34,8 +35,9 @@ impl Hart {
     #[tactic(auto, unfolding(crate::specs::Ticks::fetched, crate::specs::Ticks::decoded))]
     fn refuse(&mut self, code: &Code, cycle: u64)
         requires top { cycle ≤ TOP }
-        requires none { instr_at code.now self.old.pc ≡ None }
-        ensures { DoesAt (λ id. fetched code.now (word_at code.now self.old.pc) id self.old) cycle self.old self.new Outcome.Rests }
+        requires none { instr_at code.now self.old.value.pc ≡ None }
+        ensures does { DoesAt (λ id. fetched code.now (word_at code.now self.old.value.pc) id self.old.value) cycle self.old.value self.new.value Outcome.Rests }
+        ensures saved { self.new.saved ≡ self.old.saved }
     {
         let trap = match code.word(self.pc) {
             Some(bits) => Trap::Illegal { bits },

@@ -32,9 +32,10 @@ impl Hart {
     #[tactic(auto, unfolding(crate::specs::Accesses::accessed))]
     pub fn access(&mut self, code: &Code, access: Access, address: u32, cycle: u64) -> Outcome
         requires top { cycle ≤ TOP }
-        requires ready { IsReady self.old }
+        requires ready { IsReady self.old.value }
         requires register { WritesRegister access }
-        ensures { DoesAt (λ id. accessed code.now access address 1 id self.old) cycle self.old self.new result }
+        ensures does { DoesAt (λ id. accessed code.now access address 1 id self.old.value) cycle self.old.value self.new.value result }
+        ensures saved { self.new.saved ≡ self.old.saved }
     {
         if !access.is_aligned(address) {
             self.trap_misaligned(cycle, address);
@@ -51,10 +52,11 @@ impl Hart {
     #[inline(always)]
     #[tactic(auto, unfolding(crate::specs::Accesses::tried))]
     fn try_access(&mut self, access: Access, line: u32, address: u32, cycle: u64) -> Outcome
-        requires ready { IsReady self.old }
+        requires ready { IsReady self.old.value }
         requires aligned { IsTrue (is_aligned access (address % 4)) }
         requires register { WritesRegister access }
-        ensures { (base : ℕ) → line ≡ line_number base address → DoesAt (λ id. tried access base address 1 id self.old) cycle self.old self.new result }
+        ensures does { (base : ℕ) → line ≡ line_number base address → DoesAt (λ id. tried access base address 1 id self.old.value) cycle self.old.value self.new.value result }
+        ensures saved { self.new.saved ≡ self.old.saved }
     {
         match access {
             Access::StoreConditional { rd, .. } => {
@@ -70,9 +72,9 @@ impl Hart {
     /// An SC that fails gives 1, and loses the reservation.
     #[inline(always)]
     fn fail(&mut self, rd: u8) -> Outcome
-        requires free { self.old.busy ≡ 0 }
+        requires free { self.old.value.busy ≡ 0 }
         requires register { rd < 32 }
-        ensures after { self.new ≡ failed rd 1 self.old }
+        ensures after { self.new ≡ record self.old { value = failed rd 1 self.old.value } }
         ensures outcome { result ≡ Outcome.Ready }
     {
         self.reservation = None;
@@ -82,10 +84,11 @@ impl Hart {
     /// Does an access to its line if the cache holds it so that the access hits, and else asks for the line.
     #[inline(always)]
     fn look_up(&mut self, access: Access, line: u32, address: u32, cycle: u64) -> Outcome
-        requires ready { IsReady self.old }
+        requires ready { IsReady self.old.value }
         requires aligned { IsTrue (is_aligned access (address % 4)) }
         requires register { WritesRegister access }
-        ensures { (base : ℕ) → line ≡ line_number base address → DoesAt (λ id. looked_up (held_in self.old.cache line) access base address 1 id self.old) cycle self.old self.new result }
+        ensures does { (base : ℕ) → line ≡ line_number base address → DoesAt (λ id. looked_up (held_in self.old.value.cache line) access base address 1 id self.old.value) cycle self.old.value self.new.value result }
+        ensures saved { self.new.saved ≡ self.old.saved }
     {
         let Some(found) = self.cache.find(line) else {
             return self.miss(access, line);
@@ -101,12 +104,13 @@ impl Hart {
     #[inline(always)]
     #[tactic(auto, unfolding(crate::specs::Accesses::hit))]
     fn hit(&mut self, access: Access, found: Found, address: u32, old: u32) -> Outcome
-        requires free { self.old.busy ≡ 0 }
-        requires found { IsFoundIn self.old.cache found }
+        requires free { self.old.value.busy ≡ 0 }
+        requires found { IsFoundIn self.old.value.cache found }
         requires hits { IsTrue (hits access found.held) }
         requires aligned { IsTrue (is_aligned access (address % 4)) }
         requires register { WritesRegister access }
-        ensures after { (base : ℕ) → found.line ≡ line_number base address → self.new ≡ hit access base address old 1 self.old }
+        ensures after { (base : ℕ) → found.line ≡ line_number base address → self.new.value ≡ hit access base address old 1 self.old.value }
+        ensures saved { self.new.saved ≡ self.old.saved }
         ensures outcome { result ≡ Outcome.Ready }
     {
         match access {
@@ -138,8 +142,8 @@ impl Hart {
     /// Reads a word of the line that was found: the line becomes the most recent of its set.
     #[inline(always)]
     fn read_at(&mut self, found: Found)
-        requires { IsFoundIn self.old.cache found }
-        ensures { self.new ≡ with_access self.old (read_line self.old.cache found.line) }
+        requires { IsFoundIn self.old.value.cache found }
+        ensures { self.new ≡ record self.old { value = with_access self.old.value (read_line self.old.value.cache found.line) } }
     {
         self.cache.use_found(found);
         self.counts.accesses = raised(self.counts.accesses);
@@ -149,9 +153,9 @@ impl Hart {
     /// its set.
     #[inline(always)]
     fn write_at(&mut self, found: Found, address: u32, value: u32)
-        requires found { IsFoundIn self.old.cache found }
+        requires found { IsFoundIn self.old.value.cache found }
         requires writable { IsTrue (may_write found.held) }
-        ensures { self.new ≡ with_access self.old (write_line self.old.cache found.line (word_in_line address) value) }
+        ensures { self.new ≡ record self.old { value = with_access self.old.value (write_line self.old.value.cache found.line (word_in_line address) value) } }
     {
         self.cache.write_found(found, word_in_line(address), value);
         self.counts.accesses = raised(self.counts.accesses);
@@ -160,7 +164,8 @@ impl Hart {
     /// Waits for the line, which the access asks for.
     #[inline(always)]
     fn miss(&mut self, access: Access, line: u32) -> Outcome
-        ensures { (cycle : ℕ) → DoesAt (λ id. missed access id line self.old) cycle self.old self.new result }
+        ensures does { (cycle : ℕ) → DoesAt (λ id. missed access id line self.old.value) cycle self.old.value self.new.value result }
+        ensures saved { self.new.saved ≡ self.old.saved }
     {
         self.waiting = true;
         self.counts.misses = raised(self.counts.misses);

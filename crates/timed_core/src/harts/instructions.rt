@@ -34,9 +34,10 @@ impl Hart {
     #[tactic(auto, unfolding(crate::specs::Outcomes::executed, crate::specs::Effects::effect_of, crate::specs::Ticks::performed))]
     pub fn execute(&mut self, code: &Code, kept: &Kept, cycle: u64) -> Outcome
         requires top { cycle ≤ TOP }
-        requires ready { IsReady self.old }
+        requires ready { IsReady self.old.value }
         requires kept { IsSomeAnd (instr_in kept.now) IsInRange }
-        ensures { DoesAt (λ id. executed code.now (instr_in kept.now) id self.old) cycle self.old self.new result }
+        ensures does { DoesAt (λ id. executed code.now (instr_in kept.now) id self.old.value) cycle self.old.value self.new.value result }
+        ensures saved { self.new.saved ≡ self.old.saved }
     {
         match *kept {
             Kept::Nothing => unreachable!(),
@@ -99,9 +100,10 @@ impl Hart {
     #[tactic(auto, unfolding(crate::specs::Ticks::performed))]
     fn jump(&mut self, rd: u8, target: u32, cycle: u64) -> Outcome
         requires top { cycle ≤ TOP }
-        requires ready { IsReady self.old }
+        requires ready { IsReady self.old.value }
         requires register { rd < 32 }
-        ensures { (code : CodeValue) → DoesAt (λ id. performed code (goes_to target (Jump rd target)) 1 id self.old) cycle self.old self.new result }
+        ensures does { (code : CodeValue) → DoesAt (λ id. performed code (goes_to target (Jump rd target)) 1 id self.old.value) cycle self.old.value self.new.value result }
+        ensures saved { self.new.saved ≡ self.old.saved }
     {
         if target % 4 != 0 {
             self.trap_target(cycle, target);
@@ -116,9 +118,10 @@ impl Hart {
     #[tactic(auto, unfolding(crate::specs::Ticks::performed))]
     fn branch(&mut self, op: BranchOp, rs1: u8, rs2: u8, target: u32, cycle: u64) -> Outcome
         requires top { cycle ≤ TOP }
-        requires ready { IsReady self.old }
+        requires ready { IsReady self.old.value }
         requires registers { (rs1 < 32) × (rs2 < 32) }
-        ensures { (code : CodeValue) → DoesAt (λ id. performed code (branching op rs1 rs2 target self.old.registers) 1 id self.old) cycle self.old self.new result }
+        ensures does { (code : CodeValue) → DoesAt (λ id. performed code (branching op rs1 rs2 target self.old.value.registers) 1 id self.old.value) cycle self.old.value self.new.value result }
+        ensures saved { self.new.saved ≡ self.old.saved }
     {
         if !branch_taken(op, self.x(rs1), self.x(rs2)) {
             return self.go_on();
@@ -135,7 +138,8 @@ impl Hart {
     #[tactic(auto, unfolding(crate::specs::Ticks::called))]
     fn call(&mut self, cycle: u64) -> Outcome
         requires { cycle ≤ TOP }
-        ensures { DoesAt (λ id. called 4 id self.old) cycle self.old self.new result }
+        ensures does { DoesAt (λ id. called 4 id self.old.value) cycle self.old.value self.new.value result }
+        ensures saved { self.new.saved ≡ self.old.saved }
     {
         let service = self.registers[17];
         let argument = self.registers[10];
@@ -159,7 +163,7 @@ impl Hart {
     #[inline(always)]
     fn trap_break(&mut self, cycle: u64) -> Outcome
         requires { cycle ≤ TOP }
-        ensures after { self.new ≡ trapped self.old cycle (Trap.Break self.old.pc) }
+        ensures after { self.new ≡ record self.old { value = trapped self.old.value cycle (Trap.Break self.old.value.pc) } }
         ensures outcome { result ≡ Outcome.Rests }
     {
         self.trap(cycle, Trap::Break { pc: self.pc });
@@ -171,7 +175,7 @@ impl Hart {
     #[inline(never)]
     fn trap_call(&mut self, cycle: u64, number: u32)
         requires { cycle ≤ TOP }
-        ensures { self.new ≡ trapped self.old cycle (Trap.Call number) }
+        ensures { self.new ≡ record self.old { value = trapped self.old.value cycle (Trap.Call number) } }
     {
         self.trap(cycle, Trap::Call { number });
     }

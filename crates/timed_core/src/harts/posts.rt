@@ -12,8 +12,8 @@ impl Hart {
     /// Applies a post about a line: what is asked for then, with this id.
     #[tactic(auto, unfolding(crate::specs::Posts::applied))]
     pub fn apply(&mut self, kind: PostKind, base: u32, line: u32, id: Id) -> Option<Ask>
-        ensures after { self.new ≡ (applied kind base line id self.old).0 }
-        ensures ask { result ≡ (applied kind base line id self.old).1 }
+        ensures after { self.new ≡ record self.old { value = (applied kind base line id self.old.value).0 } }
+        ensures ask { result ≡ (applied kind base line id self.old.value).1 }
     {
         match kind {
             PostKind::Reply { exclusive, words } => { self.reply(base, line, exclusive, words, id) }
@@ -39,8 +39,8 @@ impl Hart {
     /// Fills the line with its words: a Modified victim is sent back.
     #[tactic(auto, unfolding(crate::specs::Posts::replied))]
     fn reply(&mut self, base: u32, line: u32, exclusive: bool, words: Words, id: Id) -> Option<Ask>
-        ensures after { self.new ≡ (replied base line exclusive words id self.old).0 }
-        ensures ask { result ≡ (replied base line exclusive words id self.old).1 }
+        ensures after { self.new ≡ record self.old { value = (replied base line exclusive words id self.old.value).0 } }
+        ensures ask { result ≡ (replied base line exclusive words id self.old.value).1 }
     {
         let victim = self.cache.fill(line, exclusive, words);
         self.waiting = false;
@@ -49,8 +49,8 @@ impl Hart {
 
     #[tactic(auto, unfolding(crate::specs::Posts::evicted))]
     fn evict(&mut self, base: u32, victim: Option<Victim>, id: Id) -> Option<Ask>
-        ensures after { self.new ≡ (evicted base victim id self.old).0 }
-        ensures ask { result ≡ (evicted base victim id self.old).1 }
+        ensures after { self.new ≡ record self.old { value = (evicted base victim id self.old.value).0 } }
+        ensures ask { result ≡ (evicted base victim id self.old.value).1 }
     {
         let victim = victim?;
         self.lose_reservation(base, victim.line);
@@ -59,8 +59,8 @@ impl Hart {
 
     /// Sends a Modified victim back.
     fn write_back(&mut self, victim: &Victim, id: Id) -> Option<Ask>
-        ensures after { self.new ≡ (written_back victim.now id self.old).0 }
-        ensures ask { result ≡ (written_back victim.now id self.old).1 }
+        ensures after { self.new ≡ record self.old { value = (written_back victim.now id self.old.value).0 } }
+        ensures ask { result ≡ (written_back victim.now id self.old.value).1 }
     {
         match victim.held {
             Held::Shared | Held::Exclusive => None,
@@ -77,7 +77,7 @@ impl Hart {
 
     /// Loses the reservation if it is in the line.
     fn lose_reservation(&mut self, base: u32, line: u32)
-        ensures { self.new ≡ without_reservation base line self.old }
+        ensures { self.new ≡ record self.old { value = without_reservation base line self.old.value } }
     {
         if let Some(address) = self.reservation
             && line_number(base, address) == line
@@ -87,7 +87,7 @@ impl Hart {
     }
 
     fn retry(&mut self)
-        ensures { self.new ≡ retried self.old }
+        ensures { self.new ≡ record self.old { value = retried self.old.value } }
     {
         self.waiting = false;
         self.counts.retries = raised(self.counts.retries);
@@ -95,8 +95,8 @@ impl Hart {
 
     /// Gives the line up, and a reservation in it: its words, if the cache holds it.
     fn give_up(&mut self, base: u32, line: u32) -> Option<Words>
-        ensures after { self.new ≡ given_up base line self.old }
-        ensures words { result ≡ option_map (λ l. l.words) (line_in self.old.cache line) }
+        ensures after { self.new ≡ record self.old { value = given_up base line self.old.value } }
+        ensures words { result ≡ option_map (λ l. l.words) (line_in self.old.value.cache line) }
     {
         let words = self.snoop(line, true);
         self.lose_reservation(base, line);
@@ -105,8 +105,8 @@ impl Hart {
 
     /// Another core takes the line (`own`) or reads it: its words, if the cache holds it.
     fn snoop(&mut self, line: u32, own: bool) -> Option<Words>
-        ensures after { self.new ≡ snooped line own self.old }
-        ensures words { result ≡ option_map (λ l. l.words) (line_in self.old.cache line) }
+        ensures after { self.new ≡ record self.old { value = snooped line own self.old.value } }
+        ensures words { result ≡ option_map (λ l. l.words) (line_in self.old.value.cache line) }
     {
         self.counts.snoops = raised(self.counts.snoops);
         self.cache.snoop(line, own)

@@ -20,7 +20,7 @@ pub struct Stretch {
 impl Hart {
     /// For how many of so many cycles the hart surely asks for nothing, if no post comes in.
     pub fn rest(&self, most: u64) -> u64
-        ensures { result ≡ rest_of self.now most }
+        ensures { result ≡ rest_of self.now.value most }
     {
         if self.ended == CoreEnd::Running && !self.waiting {
             most.min(u64::from(self.busy))
@@ -33,9 +33,10 @@ impl Hart {
     fn leap(&mut self, most: u64) -> u64
         requires { 0 < most }
         ensures within { result ≤ most }
-        ensures leap { IsLeap result self.old self.new }
-        ensures number { self.new.number ≡ self.old.number }
-        ensures ready { result ≡ 0 → IsReady self.new }
+        ensures leap { IsLeap result self.old.value self.new.value }
+        ensures saved { self.new.saved ≡ self.old.saved }
+        ensures number { self.new.value.number ≡ self.old.value.number }
+        ensures ready { result ≡ 0 → IsReady self.new.value }
     {
         if !self.is_running() {
             return most;
@@ -54,15 +55,15 @@ impl Hart {
 
     /// Spends cycles of those that the last instruction still takes.
     fn spend(&mut self, cycles: u32)
-        requires { cycles ≤ self.old.busy }
-        ensures { self.new ≡ record self.old { busy = self.old.busy - cycles } }
+        requires { cycles ≤ self.old.value.busy }
+        ensures { self.new ≡ record self.old { value = record self.old.value { busy = self.old.value.busy - cycles } } }
     {
         self.busy -= cycles;
     }
 
     /// Waits for some cycles more.
     fn wait(&mut self, cycles: u64)
-        ensures { self.new ≡ record self.old { counts = record self.old.counts { waits = capped (self.old.counts.waits + cycles) } } }
+        ensures { self.new ≡ record self.old { value = record self.old.value { counts = record self.old.value.counts { waits = capped (self.old.value.counts.waits + cycles) } } } }
     {
         self.counts.waits = capped(self.counts.waits.saturating_add(cycles));
     }
@@ -72,7 +73,8 @@ impl Hart {
         requires order { from < until }
         requires top { until ≤ TOP + 1 }
         ensures next { (from < result.next) × (result.next ≤ until) }
-        ensures stretch { (number : ℕ) → IsStretch code.now number from self.old self.new result }
+        ensures stretch { (number : ℕ) → IsStretch code.now number from self.old.value self.new.value result }
+        ensures saved { self.new.saved ≡ self.old.saved }
         ensures stops { result.next < until → asks result.outcome ≡ true }
     {
         let mut next = from;
@@ -96,7 +98,8 @@ impl Hart {
         requires order { from < until }
         requires top { until ≤ TOP + 1 }
         ensures next { (from < result.next) × (result.next ≤ until) }
-        ensures stretch { (number : ℕ) → IsStretch code.now number from self.old self.new result }
+        ensures stretch { (number : ℕ) → IsStretch code.now number from self.old.value self.new.value result }
+        ensures saved { self.new.saved ≡ self.old.saved }
     {
         let gone = self.leap(until - from);
         if gone > 0 {
@@ -114,9 +117,10 @@ impl Hart {
     fn run(&mut self, code: &Code, from: u64, until: u64) -> Stretch
         requires order { from < until }
         requires top { until ≤ TOP + 1 }
-        requires ready { IsReady self.old }
+        requires ready { IsReady self.old.value }
         ensures next { (from < result.next) × (result.next ≤ until) }
-        ensures stretch { (number : ℕ) → IsStretch code.now number from self.old self.new result }
+        ensures stretch { (number : ℕ) → IsStretch code.now number from self.old.value self.new.value result }
+        ensures saved { self.new.saved ≡ self.old.saved }
     {
         let mut next = from;
         loop {

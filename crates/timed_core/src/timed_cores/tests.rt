@@ -7,6 +7,7 @@ ghost use Rattle.slack_base.specs.Images.{Fits};
 mod addresses;
 mod instructions;
 mod marks;
+mod noted;
 mod parts;
 mod posts;
 mod prepared;

@@ -4,7 +4,7 @@ use Rattle.timed_core.proofs.timed_cores.apply_due.Goals as goal
 
 pub returns-clause-hart : goal.returns-clause-hart
 returns-clause-hart c =
-    (done c.args.base c.args.cycle c.len-before.result c.loop-post.hart c.args.hart.now c.loop-post.inbox c.args.inbox.now c.loop-post.out c.args.out.now
+    (done c.args.base c.args.cycle c.len-before.result c.loop-post.hart.value c.args.hart.now.value c.loop-post.inbox c.args.inbox.now c.loop-post.out c.args.out.now
     (c.in_default.ensures.none.0 refl) c.len-before.ensures c.loop-post.invariant.posts).hart
 
 pub returns-clause-inbox : goal.returns-clause-inbox
@@ -13,5 +13,5 @@ returns-clause-inbox c =
 
 pub returns-clause-asks : goal.returns-clause-asks
 returns-clause-asks c =
-    (done c.args.base c.args.cycle c.len-before.result c.loop-post.hart c.args.hart.now c.loop-post.inbox c.args.inbox.now c.loop-post.out c.args.out.now
+    (done c.args.base c.args.cycle c.len-before.result c.loop-post.hart.value c.args.hart.now.value c.loop-post.inbox c.args.inbox.now c.loop-post.out c.args.out.now
     (c.in_default.ensures.none.0 refl) c.len-before.ensures c.loop-post.invariant.posts).asks

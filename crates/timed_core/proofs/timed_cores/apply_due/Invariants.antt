@@ -5,7 +5,8 @@ use Rattle.timed_core.proofs.timed_cores.apply_due.Given as goal
 abbrev pub invariant-loop-post : goal.invariant-loop-post
 invariant-loop-post l = record {
   sent : l.before ≤ length l.out;
-  posts : through_due l.base l.cycle l.before l.hart l.inbox l.out ≡ through_due l.base l.cycle l.before l.initial.hart l.initial.inbox l.initial.out;
+  posts : through_due l.base l.cycle l.before l.hart.value l.inbox l.out ≡ through_due l.base l.cycle l.before l.initial.hart.value l.initial.inbox l.initial.out;
+  saved : l.hart.saved ≡ l.initial.hart.saved;
   later : later_than l.cycle l.inbox ≡ later_than l.cycle l.initial.inbox;
 }
 

@@ -6,11 +6,11 @@ use Rattle.timed_core.specs.Ticks.{id_at}
 use Rattle.timed_core.proofs.Fetching.{executed_of}
 use Rattle.timed_core.proofs.harts.Hart.fetch.Goals as goal
 
-pub returns : goal.returns
-returns c = λ number.
+pub returns-clause-does : goal.returns-clause-does
+returns-clause-does c = λ number.
     let code = c.args.code.now in
-    let core = c.args.self.now in
+    let core = c.args.self.now.value in
     let id = id_at c.args.cycle core number in
-    let instr : instr_in c.kept-kept.result.now ≡ instr_at code core.pc = c.kept-kept.ensures.value ∙ ap (λ h. instr_at code h.pc) c.self.view_is in
-    subst (λ out. Does out id c.execute.new.self c.execute.result)
-    (executed_of code id core (instr_in c.kept-kept.result.now) instr (search rules)) (c.execute.ensures number)
+    let instr : instr_in c.kept-kept.result.now ≡ instr_at code core.pc = c.kept-kept.ensures.value ∙ ap (λ h. instr_at code h.value.pc) c.self.view_is in
+    subst (λ out. Does out id c.execute.new.self.value c.execute.result)
+    (executed_of code id core (instr_in c.kept-kept.result.now) instr (search rules)) (c.execute.ensures.does number)

@@ -8,42 +8,42 @@ use Rattle.timed_core.specs.Ticks.{id_at}
 use Rattle.timed_core.proofs.Hits.{misses, still_misses, it_hits, hit_ready, hit_number}
 use Rattle.timed_core.proofs.harts.Hart.look_up.Goals as goal
 
-pub returns-in_default : goal.returns-in_default
-returns-in_default c = λ base is number.
+pub returns-in_default-clause-does : goal.returns-in_default-clause-does
+returns-in_default-clause-does c = λ base is number.
     let line = c.args.line in
-    let core = c.args.self.now in
+    let core = c.args.self.now.value in
     let id = id_at c.args.cycle core number in
     let nothing : None ≡ option_map (λ l. l.held) (line_in core.cache line) =
-    sym (ap (option_map (λ f. f.held)) c.in_default.is) ∙ c.find.ensures.held ∙ ap (λ h. option_map (λ l. l.held) (line_in h.cache line)) c.self.view_is in
-    subst (λ out. Does out id c.miss.new.self c.miss.result)
-    (sym (misses c.args.access base c.args.address line id core is (line_in core.cache line) nothing)) (c.miss.ensures c.args.cycle number)
+    sym (ap (option_map (λ f. f.held)) c.in_default.is) ∙ c.find.ensures.held ∙ ap (λ h. option_map (λ l. l.held) (line_in h.value.cache line)) c.self.view_is in
+    subst (λ out. Does out id c.miss.new.self.value c.miss.result)
+    (sym (misses c.args.access base c.args.address line id core is (line_in core.cache line) nothing)) (c.miss.ensures.does c.args.cycle number)
 
-pub returns-then-not-hits : goal.returns-then-not-hits
-returns-then-not-hits c = λ base is number.
+pub returns-then-not-hits-clause-does : goal.returns-then-not-hits-clause-does
+returns-then-not-hits-clause-does c = λ base is number.
     let line = c.args.line in
-    let core = c.args.self.now in
+    let core = c.args.self.now.value in
     let id = id_at c.args.cycle core number in
     let found : Some c.in-Some.found.held ≡ option_map (λ l. l.held) (line_in core.cache line) =
-    sym (ap (option_map (λ f. f.held)) c.in-Some.is) ∙ c.find.ensures.held ∙ ap (λ h. option_map (λ l. l.held) (line_in h.cache line)) c.self.view_is in
-    subst (λ out. Does out id c.miss-then-not-hits.new.self c.miss-then-not-hits.result)
+    sym (ap (option_map (λ f. f.held)) c.in-Some.is) ∙ c.find.ensures.held ∙ ap (λ h. option_map (λ l. l.held) (line_in h.value.cache line)) c.self.view_is in
+    subst (λ out. Does out id c.miss-then-not-hits.new.self.value c.miss-then-not-hits.result)
     (sym (still_misses c.args.access base c.args.address line id core is (line_in core.cache line) c.in-Some.found.held found (search rules)))
-    (c.miss-then-not-hits.ensures c.args.cycle number)
+    (c.miss-then-not-hits.ensures.does c.args.cycle number)
 
-pub returns : goal.returns
-returns c = λ base is number.
+pub returns-clause-does : goal.returns-clause-does
+returns-clause-does c = λ base is number.
     let line = c.args.line in
-    let core = c.args.self.now in
+    let core = c.args.self.now.value in
     let id = id_at c.args.cycle core number in
     let old = c.word-old.result in
     let found : Some c.in-Some.found.held ≡ option_map (λ l. l.held) (line_in core.cache line) =
-    sym (ap (option_map (λ f. f.held)) c.in-Some.is) ∙ c.find.ensures.held ∙ ap (λ h. option_map (λ l. l.held) (line_in h.cache line)) c.self.view_is in
+    sym (ap (option_map (λ f. f.held)) c.in-Some.is) ∙ c.find.ensures.held ∙ ap (λ h. option_map (λ l. l.held) (line_in h.value.cache line)) c.self.view_is in
     let same : c.in-Some.found.line ≡ line = c.in-Some.ensures.line in
     let word : option_map (λ l. word_of l.words (word_in_line c.args.address)) (line_in core.cache line) ≡ Some old =
-    sym (ap (λ w. option_map (λ l. word_of l.words w) (line_in c.self.inside.cache c.in-Some.found.line)) c.word_in_line.ensures.value
-    ∙ ap (λ h. option_map (λ l. word_of l.words (word_in_line c.args.address)) (line_in h.cache c.in-Some.found.line)) c.self.view_is
+    sym (ap (λ w. option_map (λ l. word_of l.words w) (line_in c.self.inside.cache.value c.in-Some.found.line)) c.word_in_line.ensures.value
+    ∙ ap (λ h. option_map (λ l. word_of l.words (word_in_line c.args.address)) (line_in h.value.cache c.in-Some.found.line)) c.self.view_is
     ∙ ap (λ n. option_map (λ l. word_of l.words (word_in_line c.args.address)) (line_in core.cache n)) same) ∙ c.word-old.ensures in
-    let after : c.hit.new.self ≡ hit c.args.access base c.args.address old 1 core = c.hit.ensures.after base (same ∙ is) in
-    subst (λ out. Does out id c.hit.new.self c.hit.result)
+    let after : c.hit.new.self.value ≡ hit c.args.access base c.args.address old 1 core = c.hit.ensures.after base (same ∙ is) in
+    subst (λ out. Does out id c.hit.new.self.value c.hit.result)
     (sym (it_hits c.args.access base c.args.address line id core is (line_in core.cache line) c.in-Some.found.held old found (search rules) word))
     (record {
       after = after;

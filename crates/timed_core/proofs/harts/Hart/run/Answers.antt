@@ -5,18 +5,19 @@ use Rattle.timed_core.proofs.harts.Hart.run.Goals as goal
 
 pub loop-outcome-preserved : goal.loop-outcome-preserved
 loop-outcome-preserved c =
-    let does = c.fetch-outcome.ensures in
+    let does = c.fetch-outcome.ensures.does in
     record {
       begun = omega (arith, c.loop-outcome.invariant.begun);
       within = omega (arith, c.loop-outcome.invariant.within, c.if-next-until.false);
       ready = (does 0).ready (c.is_ready.ensures.0 c.if-not-is_ready.false);
       same = (does 0).number ∙ c.loop-outcome.invariant.same;
-      silent = λ number. went_on c.args.code.now number c.args.from c.args.self.now c.fetch-outcome.new.self (record { next = c.loop-outcome.next + 1; outcome = c.fetch-outcome.result })
-          (instruction_on c.args.code.now number c.args.from c.loop-outcome.next c.args.self.now c.loop-outcome.self c.fetch-outcome.new.self c.fetch-outcome.result
+      saved = c.fetch-outcome.ensures.saved ∙ c.loop-outcome.invariant.saved;
+      silent = λ number. went_on c.args.code.now number c.args.from c.args.self.now.value c.fetch-outcome.new.self.value (record { next = c.loop-outcome.next + 1; outcome = c.fetch-outcome.result })
+          (instruction_on c.args.code.now number c.args.from c.loop-outcome.next c.args.self.now.value c.loop-outcome.self.value c.fetch-outcome.new.self.value c.fetch-outcome.result
           c.loop-outcome.invariant.begun c.loop-outcome.invariant.same (c.loop-outcome.invariant.silent number) c.loop-outcome.invariant.ready (does number)) (ap asks (c.is_ready.ensures.0 c.if-not-is_ready.false));
     }
 
 pub returns-then-not-is_ready-clause-stretch : goal.returns-then-not-is_ready-clause-stretch
 returns-then-not-is_ready-clause-stretch c = λ number.
-    instruction_on c.args.code.now number c.args.from c.loop-outcome.next c.args.self.now c.loop-outcome.self c.fetch-outcome.new.self c.fetch-outcome.result
-    c.loop-outcome.invariant.begun c.loop-outcome.invariant.same (c.loop-outcome.invariant.silent number) c.loop-outcome.invariant.ready (c.fetch-outcome.ensures number)
+    instruction_on c.args.code.now number c.args.from c.loop-outcome.next c.args.self.now.value c.loop-outcome.self.value c.fetch-outcome.new.self.value c.fetch-outcome.result
+    c.loop-outcome.invariant.begun c.loop-outcome.invariant.same (c.loop-outcome.invariant.silent number) c.loop-outcome.invariant.ready (c.fetch-outcome.ensures.does number)

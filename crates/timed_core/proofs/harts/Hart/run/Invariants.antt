@@ -8,9 +8,10 @@ abbrev pub invariant-loop-outcome : goal.invariant-loop-outcome
 invariant-loop-outcome l = record {
   begun : l.from ≤ l.next;
   within : l.next < l.until;
-  ready : IsReady l.self;
-  same : l.self.number ≡ l.initial.self.number;
-  silent : (number : ℕ) → stretch l.code number l.from (l.next - l.from) l.initial.self ≡ (l.self, []);
+  ready : IsReady l.self.value;
+  same : l.self.value.number ≡ l.initial.self.value.number;
+  saved : l.self.saved ≡ l.initial.self.saved;
+  silent : (number : ℕ) → stretch l.code number l.from (l.next - l.from) l.initial.self.value ≡ (l.self.value, []);
 }
 
 abbrev pub decreases-loop-outcome : goal.decreases-loop-outcome

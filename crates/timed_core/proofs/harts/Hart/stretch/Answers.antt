@@ -1,4 +1,4 @@
-use Rattle.std.proofs.Common.{ℕ, refl, arith, rules}
+use Rattle.std.proofs.Common.{◌∙◌, ℕ, refl, arith, rules}
 use Rattle.timed_core.specs.Stretches.{IsStretch}
 use Rattle.timed_core.specs.declared.outcomes.Outcome.TheVariants.{Rests}
 use Rattle.timed_core.proofs.Stretches.{silent_stretch, stretch_on, went_on}
@@ -6,22 +6,23 @@ use Rattle.timed_core.proofs.harts.Hart.stretch.Goals as goal
 
 pub returns-then-asks-clause-stretch : goal.returns-then-asks-clause-stretch
 returns-then-asks-clause-stretch c = λ number.
-    stretch_on c.args.code.now number c.args.from c.loop-next.next c.args.self.now c.loop-next.self c.part-part.new.self c.part-part.result
+    stretch_on c.args.code.now number c.args.from c.loop-next.next c.args.self.now.value c.loop-next.self.value c.part-part.new.self.value c.part-part.result
     c.loop-next.invariant.begun c.part-part.ensures.next.0 c.loop-next.invariant.same (c.loop-next.invariant.silent number) (c.part-part.ensures.stretch number)
 
 pub loop-next-preserved : goal.loop-next-preserved
 loop-next-preserved c =
-    let whole : (number : ℕ) → IsStretch c.args.code.now number c.args.from c.args.self.now c.part-part.new.self c.part-part.result = λ number.
-    stretch_on c.args.code.now number c.args.from c.loop-next.next c.args.self.now c.loop-next.self c.part-part.new.self c.part-part.result
+    let whole : (number : ℕ) → IsStretch c.args.code.now number c.args.from c.args.self.now.value c.part-part.new.self.value c.part-part.result = λ number.
+    stretch_on c.args.code.now number c.args.from c.loop-next.next c.args.self.now.value c.loop-next.self.value c.part-part.new.self.value c.part-part.result
     c.loop-next.invariant.begun c.part-part.ensures.next.0 c.loop-next.invariant.same (c.loop-next.invariant.silent number) (c.part-part.ensures.stretch number) in
     record {
       begun = omega (arith, c.loop-next.invariant.begun, c.part-part.ensures.next.0);
       within = c.part-part.ensures.next.1;
       same = (whole 0).same;
-      silent = λ number. went_on c.args.code.now number c.args.from c.args.self.now c.part-part.new.self c.part-part.result (whole number) (search rules);
+      saved = c.part-part.ensures.saved ∙ c.loop-next.invariant.saved;
+      silent = λ number. went_on c.args.code.now number c.args.from c.args.self.now.value c.part-part.new.self.value c.part-part.result (whole number) (search rules);
     }
 
 pub returns-clause-stretch : goal.returns-clause-stretch
 returns-clause-stretch c = λ number.
-    silent_stretch c.args.code.now number c.args.from c.args.self.now c.loop-next.self (record { next = c.loop-next.next; outcome = Rests })
+    silent_stretch c.args.code.now number c.args.from c.args.self.now.value c.loop-next.self.value (record { next = c.loop-next.next; outcome = Rests })
     (omega (arith, c.requires.order, c.loop-next-test.false)) refl c.loop-next.invariant.same (c.loop-next.invariant.silent number)

@@ -7,8 +7,9 @@ abbrev pub invariant-loop-next : goal.invariant-loop-next
 invariant-loop-next l = record {
   begun : l.from ≤ l.next;
   within : l.next ≤ l.until;
-  same : l.self.number ≡ l.initial.self.number;
-  silent : (number : ℕ) → stretch l.code number l.from (l.next - l.from) l.initial.self ≡ (l.self, []);
+  same : l.self.value.number ≡ l.initial.self.value.number;
+  saved : l.self.saved ≡ l.initial.self.saved;
+  silent : (number : ℕ) → stretch l.code number l.from (l.next - l.from) l.initial.self.value ≡ (l.self.value, []);
 }
 
 abbrev pub decreases-loop-next : goal.decreases-loop-next

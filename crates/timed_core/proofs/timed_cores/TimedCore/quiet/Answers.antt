@@ -7,5 +7,5 @@ use Rattle.timed_core.proofs.timed_cores.TimedCore.quiet.Goals as goal
 pub returns-clause-silent : goal.returns-clause-silent
 returns-clause-silent c = λ code.
     subst (λ core. (ticks_by (tick code) c.args.from c.rest.result core.value).1 ≡ []) c.self.view_is
-    (quiet_ticks code c.args.from c.next_due-due.result c.saturating_sub.result c.rest.result c.self.inside.hart c.self.inside.inbox
+    (quiet_ticks code c.args.from c.next_due-due.result c.saturating_sub.result c.rest.result c.self.inside.hart.value c.self.inside.inbox
     c.next_due-due.ensures.before c.saturating_sub.ensures c.rest.ensures)

@@ -12,12 +12,12 @@ use Rattle.timed_core.proofs.timed_cores.TimedCore.tick_with_posts.Goals as goal
 abbrev sent_before : goal.After-send → ℕ
 sent_before c = c.len.result - c.len-before.result
 
-whole : (c : goal.After-send) → IsTicked c.args.code.now c.args.cycle c.args.self.now.value (stepped c.args.code.now (id_at c.args.cycle c.apply_due.new.hart (sent_before c)) c.apply_due.new.hart).0 c.apply_due.new.inbox c.args.out.now (c.apply_due.new.out ++ asks_of (stepped c.args.code.now (id_at c.args.cycle c.apply_due.new.hart (sent_before c)) c.apply_due.new.hart).1)
+whole : (c : goal.After-send) → IsTicked c.args.code.now c.args.cycle c.args.self.now.value (stepped c.args.code.now (id_at c.args.cycle c.apply_due.new.hart.value (sent_before c)) c.apply_due.new.hart.value).0 c.apply_due.new.inbox c.args.out.now (c.apply_due.new.out ++ asks_of (stepped c.args.code.now (id_at c.args.cycle c.apply_due.new.hart.value (sent_before c)) c.apply_due.new.hart.value).1)
 whole c =
     let code = c.args.code.now in
     let t = c.args.cycle in
-    let first : CoreValue HartValue = record { inner = c.self.inside.hart; inbox = c.self.inside.inbox } in
-    let hart = c.apply_due.new.hart in
+    let first : CoreValue HartValue = record { inner = c.self.inside.hart.value; inbox = c.self.inside.inbox } in
+    let hart = c.apply_due.new.hart.value in
     let left = c.apply_due.new.inbox in
     let sent = c.args.out.now in
     let out = c.apply_due.new.out in
@@ -31,10 +31,10 @@ whole c =
     subst (λ core. IsTicked code t core.value (stepped code id hart).0 left sent (out ++ asks_of (stepped code id hart).1)) c.self.view_is
     (ticked code t c.len-before.result first hart left sent out id c.len-before.ensures c.in_ok-apply_due.ensures.inbox posts numbered)
 
-step : (c : goal.After-send) → IsOneStep c.args.code.now (id_at c.args.cycle c.apply_due.new.hart (sent_before c)) c.apply_due.new.hart c.stretch-stretch.new.self (asks_of (ask_of c.stretch-stretch.result.outcome (id_at c.args.cycle c.stretch-stretch.new.self (sent_before c))))
+step : (c : goal.After-send) → IsOneStep c.args.code.now (id_at c.args.cycle c.apply_due.new.hart.value (sent_before c)) c.apply_due.new.hart.value c.stretch-stretch.new.self.value (asks_of (ask_of c.stretch-stretch.result.outcome (id_at c.args.cycle c.stretch-stretch.new.self.value (sent_before c))))
 step c =
     let next : c.stretch-stretch.result.next ≡ c.args.cycle + 1 = omega (arith, c.stretch-stretch.ensures.next) in
-    one_step c.args.code.now (sent_before c) c.args.cycle c.apply_due.new.hart c.stretch-stretch.new.self c.stretch-stretch.result next (c.stretch-stretch.ensures.stretch (sent_before c))
+    one_step c.args.code.now (sent_before c) c.args.cycle c.apply_due.new.hart.value c.stretch-stretch.new.self.value c.stretch-stretch.result next (c.stretch-stretch.ensures.stretch (sent_before c))
 
 pub returns-clause-core : goal.returns-clause-core
 returns-clause-core c =
@@ -42,6 +42,6 @@ returns-clause-core c =
 
 pub returns-clause-asks : goal.returns-clause-asks
 returns-clause-asks c =
-    let ask : asks_of c.ask.result ≡ asks_of (ask_of c.stretch-stretch.result.outcome (id_at c.args.cycle c.stretch-stretch.new.self (sent_before c))) =
+    let ask : asks_of c.ask.result ≡ asks_of (ask_of c.stretch-stretch.result.outcome (id_at c.args.cycle c.stretch-stretch.new.self.value (sent_before c))) =
     ap asks_of (c.ask.ensures ∙ ap (ask_of c.stretch-stretch.result.outcome) c.id_at-id.ensures) in
     on_ok_weaker c.send.result (λ sent. sent ∙ ap (λ asks. c.apply_due.new.out ++ asks) (ask ∙ (step c).asks) ∙ (whole c).asks) c.send.ensures

@@ -1,0 +1,56 @@
+use Rattle.std.proofs.Common.{◌≡◌, ◌∙◌, ℕ, ◌<◌, ◌≤◌, ◌++◌, ◌∷◌, [], List, true, false, length, get_or, refl, sym, ap, subst, arith}
+use Rattle.std.specs.Prelude.{slice_set, vec_capacity}
+use Rattle.std.proofs.lemmas.List.{get_or_read, get_or_default}
+use Rattle.mesi_cache.specs.declared.lines.CacheLine.{CacheLine}
+use Rattle.mesi_cache.specs.Caches.{CacheValue, set_number}
+use Rattle.timed_core.specs.declared.noted_sets.SetNote.{SetNote}
+use Rattle.timed_core.specs.Journals.{SetsValue, IsFlagged, restored, is_noted}
+use Rattle.timed_core.proofs.Flagging.{flagged-push, noted-last, one-down}
+use Rattle.timed_core.proofs.Restoring.{restored-noting}
+use Rattle.timed_core.proofs.noted_sets.NotedSets.note.Goals as goal
+
+-- the set as it is now stands last in the journal
+abbrev noted_now : goal.After-self-1 → SetNote
+noted_now c = record { set = c.set_of-set.result; copy = c.set_copy-copy.result }
+
+within : (c : goal.After-self-1) → c.set_of-set.result < length c.self.inside.flags.items
+within c = omega (arith, c.set_of-set.ensures.within, c.self.invariant.each)
+
+low : (c : goal.After-self-1) → get_or c.self.inside.flags.items c.set_of-set.result false ≡ false
+low c =
+    sym (get_or_read c.self.inside.flags.items c.set_of-set.result c.index.result.now (within c) c.index.ensures false) ∙ c.if-index.false
+
+pub push_reserved-requires : goal.push_reserved-requires
+push_reserved-requires c =
+    let flags = c.self.inside.flags.items in
+    let set = c.set_of-set.result in
+    let room : length c.self.inside.cache.sets ≤ vec_capacity c.self.inside.journal = subst (λ (v : SetsValue). length v.cache.sets ≤ v.room) (sym c.self.view_is) c.requires in
+    let inside : set < length flags = omega (arith, c.set_of-set.ensures.within, c.self.invariant.each) in
+    let down : get_or flags set false ≡ false = sym (get_or_read flags set c.index.result.now inside c.index.ensures false) ∙ c.if-index.false in
+    omega (arith, room, c.self.invariant.few, c.self.invariant.each, one-down flags set inside down, c.self.inside.journal.ok.0)
+
+pub invariant_of-self : goal.invariant_of-self
+invariant_of-self c =
+    let inside = c.self.inside in
+    subst (λ (js : List SetNote). IsFlagged (slice_set inside.flags.items c.set_of-set.result true) (length inside.cache.sets) inside.cache.ways js)
+    (sym c.push_reserved.ensures.items)
+    (flagged-push inside.flags.items (length inside.cache.sets) inside.cache.ways inside.journal.items (noted_now c) c.set_of-set.result c.self.invariant refl
+    c.set_of-set.ensures.within (c.set_of-set.ensures.within, c.set_copy-copy.ensures.fits inside.cache (record { number_of_sets = refl; number_of_ways = refl })) (low c))
+
+pub returns-clause-kept : goal.returns-clause-kept
+returns-clause-kept c =
+    let inside = c.self.inside in
+    let set = c.set_of-set.result in
+    let copy = c.set_copy-copy.result in
+    let same : copy ≡ get_or inside.cache.sets set copy =
+    c.set_copy-copy.ensures.lines ∙ get_or_default inside.cache.sets set [] copy c.set_of-set.ensures.within in
+    ap (λ (js : List SetNote). restored inside.cache.sets js) c.push_reserved.ensures.items
+    ∙ restored-noting inside.cache.sets inside.journal.items set copy same
+    ∙ ap (λ (v : SetsValue). restored v.cache.sets v.journal) c.self.view_is
+
+pub returns-clause-noted : goal.returns-clause-noted
+returns-clause-noted c =
+    let number : c.set_of-set.result ≡ set_number c.args.self.now.cache c.args.line =
+    c.set_of-set.ensures.number ∙ ap (λ (v : SetsValue). set_number v.cache c.args.line) c.self.view_is in
+    ap (λ (js : List SetNote). is_noted (set_number c.args.self.now.cache c.args.line) js) c.push_reserved.ensures.items
+    ∙ noted-last (set_number c.args.self.now.cache c.args.line) c.self.inside.journal.items (noted_now c) number

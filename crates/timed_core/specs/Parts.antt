@@ -1,0 +1,42 @@
+-- All of a hart but its cache.
+use Rattle.std.specs.Prelude.{ℕ, Bool, List, Option}
+use Rattle.slack_base.specs.declared.cores.CoreEnd.{CoreEnd}
+use Rattle.slack_base.specs.declared.cores.Counts.{Counts}
+use Rattle.mesi_cache.specs.Caches.{CacheValue}
+use Rattle.timed_core.specs.Cores.{HartValue}
+
+pub record PartsValue : Type 0 where
+  pub number : ℕ
+  pub pc : ℕ
+  pub registers : List ℕ
+  pub reservation : Option ℕ
+  pub busy : ℕ
+  pub waiting : Bool
+  pub ended : CoreEnd
+  pub counts : Counts
+
+abbrev pub parts_of : HartValue → PartsValue
+parts_of h = record {
+  number = h.number;
+  pc = h.pc;
+  registers = h.registers;
+  reservation = h.reservation;
+  busy = h.busy;
+  waiting = h.waiting;
+  ended = h.ended;
+  counts = h.counts;
+}
+
+-- the hart of these parts and this cache
+abbrev pub hart_of : PartsValue → CacheValue → HartValue
+hart_of p cache = record {
+  number = p.number;
+  pc = p.pc;
+  registers = p.registers;
+  reservation = p.reservation;
+  cache = cache;
+  busy = p.busy;
+  waiting = p.waiting;
+  ended = p.ended;
+  counts = p.counts;
+}
