@@ -33,7 +33,7 @@ apart_from_test a b h =
       | false ↦ λ e test. inr (grind (arith, nat_tests))
     ] refl h
 
-all_apart_from : (load : Load) (earlier : List Load) → first_fault (map (overlap_check load) earlier) ≡ None → AllByRecursion (λ e. AreApart e load) earlier
+pub all_apart_from : (load : Load) (earlier : List Load) → first_fault (map (overlap_check load) earlier) ≡ None → AllByRecursion (λ e. AreApart e load) earlier
 all_apart_from load [] h = tt
 all_apart_from load (other ∷ earlier) h =
     let a = none_failed (overlap_check load other) (map (overlap_check load) earlier) h in
@@ -76,7 +76,7 @@ parts P [] ys h = (tt, h)
 parts P (x ∷ xs) ys h = let rest = parts P xs ys h.1 in ((h.0, rest.0), rest.1)
 
 -- of each later piece: it is apart from the earlier ones, and from the one behind them
-split_apart : (earlier : List Load) (load : Load) (loads : List Load) → AllByRecursion (λ r. AllByRecursion (λ e. AreApart e r) (earlier ++ load ∷ [])) loads → AllByRecursion (λ r. AllByRecursion (λ e. AreApart e r) earlier) loads × AllByRecursion (AreApart load) loads
+pub split_apart : (earlier : List Load) (load : Load) (loads : List Load) → AllByRecursion (λ r. AllByRecursion (λ e. AreApart e r) (earlier ++ load ∷ [])) loads → AllByRecursion (λ r. AllByRecursion (λ e. AreApart e r) earlier) loads × AllByRecursion (AreApart load) loads
 split_apart earlier load [] h = (tt, tt)
 split_apart earlier load (r ∷ loads) h =
     let one = parts (λ e. AreApart e r) earlier (load ∷ []) h.0 in
@@ -84,10 +84,10 @@ split_apart earlier load (r ∷ loads) h =
     ((one.0, rest.0), (one.1.0, rest.1))
 
 -- pieces whose checks hold
-record ArePassed (base memory : ℕ) (earlier loads : List Load) : Type 0 where
-  loadable : AllByRecursion (IsLoadable base memory) loads
-  from_earlier : AllByRecursion (λ r. AllByRecursion (λ e. AreApart e r) earlier) loads
-  apart : AllApart loads
+pub record ArePassed (base memory : ℕ) (earlier loads : List Load) : Type 0 where
+  pub loadable : AllByRecursion (IsLoadable base memory) loads
+  pub from_earlier : AllByRecursion (λ r. AllByRecursion (λ e. AreApart e r) earlier) loads
+  pub apart : AllApart loads
 
 loads_passed : (base memory have : ℕ) (earlier loads : List Load) → AllByRecursion HasBytes loads → first_fault (load_checks base memory have earlier loads) ≡ None → ArePassed base memory earlier loads
 unfolding load_checks

@@ -4,4 +4,9 @@ pub mod ElfSteps
 pub mod FileFits
 pub mod FlatFits
 pub mod LoadSteps
+pub mod PackedAgain
+pub mod PackedFits
+pub mod PackedSteps
+pub mod PieceSteps
 pub mod ReadAgain
+pub mod Written

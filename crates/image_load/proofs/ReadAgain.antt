@@ -15,6 +15,7 @@ use Rattle.slack_base.specs.Checks.{first_fault, unless_fault}
 use Rattle.image_load.specs.Checks.{Check, is_in_memory, is_word_of}
 use Rattle.image_load.specs.Elf.{is_elf, elf_header, elf_checks, elf_layout}
 use Rattle.image_load.specs.Flat.{is_flat, flat_header, flat_checks, flat_layout, flat_file}
+use Rattle.image_load.specs.Packed.{is_packed, packed_header, packed_checks, packed_layout}
 use Rattle.image_load.specs.Layouts.{image_in}
 use Rattle.image_load.specs.Reading.{fault_of, layout_of, image_of}
 use Rattle.slack_base.specs.Images.{one_piece}
@@ -64,7 +65,7 @@ module _ (address entry : ℕ) (bytes : List ℕ) (address_fits : address < 2 ^ 
   unfolding layout_of
   layout_is =
       let file = flat_file address entry bytes in
-      ap (λ b. cond b (flat_layout (flat_header file)) (elf_layout file (elf_header file))) named ∙ ap flat_layout header_is
+      ap (λ b. cond b (flat_layout (flat_header file)) (cond (is_packed file) (packed_layout file (packed_header file)) (elf_layout file (elf_header file)))) named ∙ ap flat_layout header_is
 
   module _ (base memory : ℕ) (fits : Fits base memory (one_piece address entry bytes)) where
     inside : IsInMemory base memory (record { address = address; bytes = bytes; size = length bytes })
@@ -92,9 +93,11 @@ module _ (address entry : ℕ) (bytes : List ℕ) (address_fits : address < 2 ^ 
         let file = flat_file address entry bytes in
         let long = length_is in
         let elf = cond (is_elf file) (first_fault (elf_checks base memory file)) (Some Magic) in
+        let packed = first_fault (packed_checks base memory file) in
+        let other = cond (is_packed file) packed elf in
         let flat = first_fault (flat_checks base memory file) in
         let enough : nat_lt (length file) 4 ≡ false = grind (arith, nat_tests) in
-        ap (λ b. cond b (Some (Short (length file) 4)) (cond (is_flat file) flat elf)) enough ∙ ap (λ b. cond b flat elf) named ∙ no_check_fails
+        ap (λ b. cond b (Some (Short (length file) 4)) (cond (is_flat file) flat other)) enough ∙ ap (λ b. cond b flat other) named ∙ no_check_fails
 
     image_is : image_in (flat_file address entry bytes) (flat_layout head) ≡ one_piece address entry bytes
     unfolding head flat_file

@@ -4,5 +4,6 @@ pub mod Fields
 pub mod Flat
 pub mod Layouts
 pub mod LoadChecks
+pub mod Packed
 pub mod Reading
 pub mod Writing

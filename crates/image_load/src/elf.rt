@@ -1,5 +1,5 @@
 //! The format ELF32, as far as its program headers.
-ghost use Rattle.std.specs.Prelude.{◌≡◌, ◌+◌, ◌<◌, ◌≤◌, [], length, IfOk};
+ghost use Rattle.std.specs.Prelude.{◌≡◌, ◌+◌, ◌<◌, ◌≤◌, ◌^◌, [], length, IfOk};
 ghost use Rattle.slack_base.specs.Checks.{first_fault, unless_fault};
 ghost use Rattle.image_load.specs.LoadChecks.{load_checks};
 ghost use Rattle.image_load.specs.Elf.{elf_header, program_header, program_headers, is_load, loads_of, is_executable, headers_end, header_checks, elf_layout, elf_checks};
@@ -122,13 +122,14 @@ fn checked_loads(bytes: &[u8], config: &Config, header: &ElfHeader) -> Result<Lo
 #[tactic(auto, unfolding(crate::specs::Elf::program_header))]
 fn program_header(bytes: &[u8], start: usize, index: u16) -> ProgramHeader
     requires { start + 32 ≤ length bytes.now }
-    ensures { result ≡ program_header bytes.now start index }
+    ensures header { result ≡ program_header bytes.now start index }
+    ensures near { result.load.offset < 2 ^ 32 }
 {
     ProgramHeader {
         kind: u32_at(bytes, start),
         load: Load {
             index: u32::from(index),
-            offset: u32_at(bytes, start + 4),
+            offset: u64::from(u32_at(bytes, start + 4)),
             address: u32_at(bytes, start + 8),
             file_size: u32_at(bytes, start + 16),
             memory_size: u32_at(bytes, start + 20),

@@ -1,5 +1,5 @@
 //! What a file says of an image, apart from its bytes, and the image of it.
-ghost use Rattle.std.specs.Prelude.{◌≡◌, map, IfOk};
+ghost use Rattle.std.specs.Prelude.{◌≡◌, ◌≤◌, map, length, IfOk};
 ghost use Rattle.image_load.specs.Layouts.{file_bytes, segment_of, image_in};
 
 use crate::loads::Loads;
@@ -12,7 +12,7 @@ pub struct Load {
     /// The number of its header.
     pub index: u32,
     /// Where its bytes begin in the file.
-    pub offset: u32,
+    pub offset: u64,
     pub address: u32,
     /// How many bytes the file gives.
     pub file_size: u32,
@@ -29,7 +29,8 @@ pub struct Layout {
 
 /// The image of these bytes under a layout.
 pub fn image_in(alloc: Global, bytes: &[u8], layout: &Layout) -> Result<Image, OutOfMemory>
-    ensures { IfOk result (λ image. image ≡ image_in bytes.now layout.now) }
+    ensures image { IfOk result (λ image. image ≡ image_in bytes.now layout.now) }
+    ensures few { IfOk result (λ image. length image.segments ≤ 64) }
 {
     let segments = segments_of(alloc, bytes, layout.loads.as_slice())?;
     Ok(Image {
@@ -40,7 +41,8 @@ pub fn image_in(alloc: Global, bytes: &[u8], layout: &Layout) -> Result<Image, O
 
 /// The segments that are loaded.
 fn segments_of(alloc: Global, bytes: &[u8], loads: &[Load]) -> Result<SegmentList, OutOfMemory>
-    ensures { IfOk result (λ segments. segments ≡ map (segment_of bytes.now) loads.now) }
+    ensures segments { IfOk result (λ segments. segments ≡ map (segment_of bytes.now) loads.now) }
+    ensures count { IfOk result (λ segments. length segments ≡ length loads.now) }
 {
     let mut segments = SegmentList::new(alloc);
     for load in loads {
@@ -58,7 +60,6 @@ fn segments_of(alloc: Global, bytes: &[u8], loads: &[Load]) -> Result<SegmentLis
 fn file_bytes<'a>(bytes: &'a [u8], load: &Load) -> &'a [u8]
     ensures { result.now ≡ file_bytes bytes.now load.now }
 {
-    let start = (load.offset as usize).min(bytes.len());
-    let end = (load.offset as usize + load.file_size as usize).min(bytes.len());
-    &bytes[start..end]
+    let (_, rest) = bytes.split_at((load.offset as usize).min(bytes.len()));
+    &rest[..(load.file_size as usize).min(rest.len())]
 }

@@ -1,5 +1,5 @@
 //! The checks of a piece that an executable loads, after those before it.
-ghost use Rattle.std.specs.Prelude.{◌≡◌, ◌+◌, map};
+ghost use Rattle.std.specs.Prelude.{◌≡◌, ◌+◌, ◌<◌, ◌^◌, map};
 ghost use Rattle.slack_base.specs.Checks.{first_fault};
 ghost use Rattle.image_load.specs.LoadChecks.{are_apart, overlap_check, checks_of};
 
@@ -11,13 +11,14 @@ use slack_base::{Config, ImageFault};
 /// The first fault of a piece, in a file of so many bytes, after earlier ones.
 #[tactic(auto, unfolding(crate::specs::LoadChecks::checks_of))]
 pub fn load_fault(have: u64, config: &Config, earlier: &[Load], load: &Load) -> Option<ImageFault>
+    requires { load.now.offset < 2 ^ 32 }
     ensures { result ≡ first_fault (checks_of config.now.base config.now.memory have earlier.now load.now) }
 {
     let index = load.index;
     if load.file_size > load.memory_size || earlier.len() >= MOST_LOADS {
         return Some(ImageFault::Segment { index });
     }
-    let need = u64::from(load.offset) + u64::from(load.file_size);
+    let need = load.offset + u64::from(load.file_size);
     if load.file_size > 0 && have < need {
         return Some(ImageFault::Short { have, need });
     }
@@ -28,7 +29,7 @@ pub fn load_fault(have: u64, config: &Config, earlier: &[Load], load: &Load) -> 
 }
 
 /// The fault of the first piece that shares an address with this one.
-fn overlap(earlier: &[Load], load: &Load) -> Option<ImageFault>
+pub fn overlap(earlier: &[Load], load: &Load) -> Option<ImageFault>
     ensures { result ≡ first_fault (map (overlap_check load.now) earlier.now) }
 {
     for other in earlier {

@@ -1,5 +1,5 @@
 //! The pieces of memory that a file loads: as many as an image may have.
-ghost use Rattle.std.specs.Prelude.{◌≡◌, ◌<◌, [], ◌∷◌, ◌++◌, length};
+ghost use Rattle.std.specs.Prelude.{◌≡◌, ◌<◌, ◌≤◌, [], ◌∷◌, ◌++◌, length};
 
 use crate::layouts::Load;
 use std::marker::Model;
@@ -45,7 +45,8 @@ impl Loads {
 
     /// The pieces.
     pub fn as_slice(&self) -> &[Load]
-        ensures { result.now ≡ self.now }
+        ensures items { result.now ≡ self.now }
+        ensures few { length result.now ≤ 64 }
     {
         &self.items[..self.count]
     }

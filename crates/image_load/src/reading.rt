@@ -6,10 +6,12 @@ ghost use Rattle.image_load.specs.declared.reading.ImageError.TheVariants as err
 ghost use Rattle.slack_base.specs.Checks.{unless_fault};
 ghost use Rattle.image_load.specs.Layouts.{image_in};
 ghost use Rattle.image_load.specs.Reading.{fault_of, layout_of, image_of};
+ghost use Rattle.image_load.specs.Writing.{IsPackable};
 
 use crate::elf::elf_layout;
 use crate::flat::flat_layout;
 use crate::layouts::{Layout, image_in};
+use crate::packed::packed_layout;
 use slack_base::{Config, Image, ImageFault, OutOfMemory};
 use std::alloc::Global;
 use thiserror::Error;
@@ -38,6 +40,8 @@ pub fn read_image(alloc: Global, bytes: &[u8], config: &Config) -> Result<Image,
     ensures image { IfOk result (λ image. image_of config.now.base config.now.memory bytes.now ≡ Ok image) }
     ensures fault { (fault : ImageFault) → (IsErrOf result (ImageError.Fault fault) ↔ (image_of config.now.base config.now.memory bytes.now ≡ Err fault)) }
     ensures fits { IfOk result (λ image. Fits config.now.base config.now.memory image) }
+    // It has an SLK2 file.
+    ensures packable { IfOk result (λ image. IsPackable image) }
 {
     let layout = layout_of(bytes, config).map_err(ImageError::Fault)?;
     Ok(image_in(alloc, bytes, &layout)?)
@@ -64,6 +68,9 @@ fn layout_of(bytes: &[u8], config: &Config) -> Result<Layout, ImageFault>
     }
     if bytes.starts_with(b"SLK1") {
         return flat_layout(bytes, config);
+    }
+    if bytes.starts_with(b"SLK2") {
+        return packed_layout(bytes, config);
     }
     if bytes.starts_with(b"\x7fELF") {
         return elf_layout(bytes, config);

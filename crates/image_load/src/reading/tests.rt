@@ -5,6 +5,7 @@ mod elf_pieces;
 mod every_field;
 mod flat_files;
 mod linked_files;
+mod packed_files;
 
 use super::*;
 use slack_base::{ByteList, RawConfig, Segment, SegmentList};

@@ -55,7 +55,7 @@ const TEXTS: [Case; 11] = [
     },
     Case {
         words: &["run"],
-        input: b"SLK2 and more",
+        input: b"SLK3 and more",
         status: 3,
         answer: Answer::BadImage(ImageFault::Magic),
         text: b"",

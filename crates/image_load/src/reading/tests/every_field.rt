@@ -1,6 +1,7 @@
 //! Each field of a file at 0, at 1, at its greatest value, and at those beside its bounds.
 
 use super::flat_files::FLAT;
+use super::packed_files::PACKED;
 use super::*;
 use std::process::Abort;
 use std::test::Fail;
@@ -29,17 +30,34 @@ const OUTSIDE: Option<ImageFault> = Some(ImageFault::Outside { index: 0 });
 /// A flat file of 28 bytes: 12 for address 0. Memory is from 0 to 1048576.
 #[rattlefmt::skip]
 const FLAT_FIELDS: [Field; 7] = [
-    // the magic
+    // the magic; an SLK2 file with these bytes has no piece
     (0, 1, &[(0, MAGIC), (1, MAGIC), (0x52, MAGIC), (0x53, None), (0x54, MAGIC), (255, MAGIC)]),
     (1, 1, &[(0, MAGIC), (1, MAGIC), (0x4b, MAGIC), (0x4c, None), (0x4d, MAGIC), (255, MAGIC)]),
     (2, 1, &[(0, MAGIC), (1, MAGIC), (0x4a, MAGIC), (0x4b, None), (0x4c, MAGIC), (255, MAGIC)]),
-    (3, 1, &[(0, MAGIC), (1, MAGIC), (0x30, MAGIC), (0x31, None), (0x32, MAGIC), (255, MAGIC)]),
+    (3, 1, &[(0, MAGIC), (1, MAGIC), (0x30, MAGIC), (0x31, None), (0x32, None), (0x33, MAGIC), (255, MAGIC)]),
     // the address
     (4, 4, &[(0, None), (1, None), (1048564, None), (1048565, OUTSIDE), (4294967295, OUTSIDE)]),
     // the entry
     (8, 4, &[(0, None), (1, Some(ImageFault::Entry { entry: 1 })), (3, Some(ImageFault::Entry { entry: 3 })), (4, None), (1048572, None), (1048573, Some(ImageFault::Entry { entry: 1048573 })), (1048576, Some(ImageFault::Entry { entry: 1048576 })), (4294967295, Some(ImageFault::Entry { entry: 4294967295 }))]),
     // the number of bytes
     (12, 4, &[(0, None), (1, None), (12, None), (13, Some(ImageFault::Short { have: 28, need: 29 })), (4294967295, Some(ImageFault::Short { have: 28, need: 4294967311 }))]),
+];
+
+const TOO_MANY: Option<ImageFault> = Some(ImageFault::Segment { index: 64 });
+
+/// An SLK2 file of 36 bytes, with one header at 12, of 12 bytes for address 0. Memory is from 0 to 1048576.
+#[rattlefmt::skip]
+const PACKED_FIELDS: [Field; 6] = [
+    // the end of the magic: an SLK1 file with these bytes has the entry 1
+    (3, 1, &[(0, MAGIC), (1, MAGIC), (0x30, MAGIC), (0x31, Some(ImageFault::Entry { entry: 1 })), (0x32, None), (0x33, MAGIC), (255, MAGIC)]),
+    // the entry
+    (4, 4, &[(0, None), (1, Some(ImageFault::Entry { entry: 1 })), (3, Some(ImageFault::Entry { entry: 3 })), (4, None), (1048572, None), (1048573, Some(ImageFault::Entry { entry: 1048573 })), (1048576, Some(ImageFault::Entry { entry: 1048576 })), (4294967295, Some(ImageFault::Entry { entry: 4294967295 }))]),
+    // how many headers there are: two take the bytes of the first piece
+    (8, 4, &[(0, None), (1, None), (2, Some(ImageFault::Short { have: 36, need: 48 })), (3, Some(ImageFault::Short { have: 36, need: 48 })), (64, Some(ImageFault::Short { have: 36, need: 780 })), (65, TOO_MANY), (4294967295, TOO_MANY)]),
+    // the address, the length and the size of the piece
+    (12, 4, &[(0, None), (1, None), (1048564, None), (1048565, OUTSIDE), (4294967295, OUTSIDE)]),
+    (16, 4, &[(0, None), (1, None), (12, None), (13, SEGMENT), (4294967295, SEGMENT)]),
+    (20, 4, &[(0, SEGMENT), (1, SEGMENT), (11, SEGMENT), (12, None), (13, None), (1048576, None), (1048577, OUTSIDE), (4294967295, OUTSIDE)]),
 ];
 
 /// An executable of 96 bytes, with one header at 52, of 12 bytes from 84 on for address 65536, which is the entry. Memory is
@@ -122,6 +140,12 @@ fn check_fields<R: Abort + AllocGlobal>(
 fn flat_fields(rt: HostRuntime) -> Result<(), Fail> {
     let config = memory_of(0, 1048576).ok_or("the numbers are within their bounds")?;
     check_fields(&rt, &FLAT, &config, &FLAT_FIELDS)
+}
+
+#[test]
+fn packed_fields(rt: HostRuntime) -> Result<(), Fail> {
+    let config = memory_of(0, 1048576).ok_or("the numbers are within their bounds")?;
+    check_fields(&rt, &PACKED, &config, &PACKED_FIELDS)
 }
 
 #[test]
