@@ -9,11 +9,11 @@ const PROGRAM: [u32; 3] = [LUI_X8, LW_X5, 0];
 /// What the readers tell of a core.
 #[derive(Clone, Copy, Debug, PartialEq)]
 pub struct Told {
-    pc: u32,
-    x5: u32,
-    held: Option<HeldLine>,
-    end: CoreEnd,
-    counts: Counts,
+    pub pc: u32,
+    pub x5: u32,
+    pub held: Option<HeldLine>,
+    pub end: CoreEnd,
+    pub counts: Counts,
 }
 
 /// What is counted in the cycles 0 and 1.

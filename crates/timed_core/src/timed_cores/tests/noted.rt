@@ -48,7 +48,7 @@ const LATER: Told = Told {
     },
 };
 
-fn more(core: &TimedCore) -> More {
+fn the_rest(core: &TimedCore) -> More {
     More {
         number: core.number(),
         x8: core.reg(8),
@@ -158,13 +158,13 @@ fn noted_sets_are_put_back(rt: HostRuntime) -> Result<(), Fail> {
     let code = code(&rt, rt.alloc())?;
     let mut core = marked(&code, rt.alloc())?;
     assert_eq!(rt; what_is_told(&core), AT_MARK);
-    assert_eq!(rt; more(&core), MORE_AT_MARK);
+    assert_eq!(rt; the_rest(&core), MORE_AT_MARK);
     for _round in 0..2u32 {
         go_on(&mut core, &code, rt.alloc(), 2, 11)?;
         assert_eq!(rt; what_is_told(&core), LATER);
         core.undo();
         assert_eq!(rt; what_is_told(&core), AT_MARK);
-        assert_eq!(rt; more(&core), MORE_AT_MARK);
+        assert_eq!(rt; the_rest(&core), MORE_AT_MARK);
         core.mark()?;
     }
     Ok(())
