@@ -49,7 +49,7 @@ def random_input(rng):
     if kind == 0:
         return rng.randbytes(rng.randrange(200))
     if kind == 1:
-        return rng.choice([b"SLK1", b"\x7fELF"]) + rng.randbytes(rng.randrange(200))
+        return rng.choice([b"SLK1", b"SLK2", b"\x7fELF"]) + rng.randbytes(rng.randrange(200))
     if kind == 2:
         base, length = rng.choice([0, 4096, 2**32 - 4]), rng.choice([0, 4, 12, 2**32 - 1])
         return b"SLK1" + struct.pack("<III", base, rng.choice([base, base + 2, 0]), length) + rng.randbytes(rng.choice([0, 12, 400]))
@@ -57,7 +57,7 @@ def random_input(rng):
 
 
 def random_words(rng):
-    words = [rng.choice(["run", "run", "run", "gen", "asm", "list", "walk", ""])]
+    words = [rng.choice(["run", "run", "run", "gen", "asm", "list", "pack", "walk", ""])]
     for _ in range(rng.randrange(5)):
         words += ["--" + rng.choice(OPTIONS), rng.choice(VALUES)]
     if rng.randrange(8) == 0 and len(words) > 1:

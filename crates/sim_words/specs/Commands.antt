@@ -12,6 +12,7 @@ commands =
     ∷ (codes "gen", command.Gen)
     ∷ (codes "asm", command.Asm)
     ∷ (codes "list", command.List)
+    ∷ (codes "pack", command.Pack)
     ∷ []
 
 -- the command of a word
@@ -24,3 +25,4 @@ has set command.Run = set.run
 has set command.Gen = set.generate
 has set command.Asm = set.assemble
 has set command.List = set.list
+has set command.Pack = set.pack

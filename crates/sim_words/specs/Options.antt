@@ -11,25 +11,25 @@ use Rattle.sim_words.specs.Tables.{entry_in}
 
 -- all commands
 abbrev pub every_command : CommandSet
-every_command = record { run = true; generate = true; assemble = true; list = true }
+every_command = record { run = true; generate = true; assemble = true; list = true; pack = true }
 
-abbrev pub run_gen_list : CommandSet
-run_gen_list = record { run = true; generate = true; assemble = false; list = true }
+abbrev pub all_but_asm : CommandSet
+all_but_asm = record { run = true; generate = true; assemble = false; list = true; pack = true }
 
 abbrev pub run_gen : CommandSet
-run_gen = record { run = true; generate = true; assemble = false; list = false }
+run_gen = record { run = true; generate = true; assemble = false; list = false; pack = false }
 
 abbrev pub run_alone : CommandSet
-run_alone = record { run = true; generate = false; assemble = false; list = false }
+run_alone = record { run = true; generate = false; assemble = false; list = false; pack = false }
 
 abbrev pub gen_alone : CommandSet
-gen_alone = record { run = false; generate = true; assemble = false; list = false }
+gen_alone = record { run = false; generate = true; assemble = false; list = false; pack = false }
 
 -- each option by its word: the value that it takes, and the commands that have it
 unfoldable pub options : List (List ℕ × (OptionName × CommandSet))
 options =
     (codes "--base", (Number Base, every_command))
-    ∷ (codes "--memory", (Number Memory, run_gen_list))
+    ∷ (codes "--memory", (Number Memory, all_but_asm))
     ∷ (codes "--cores", (Number Cores, run_gen))
     ∷ (codes "--sets", (Number Sets, run_gen))
     ∷ (codes "--ways", (Number Ways, run_gen))

@@ -16,13 +16,16 @@ pub enum Command {
     Asm,
     /// List the instructions of an image.
     List,
+    /// Write an image as a packed file.
+    Pack,
 }
 
-static COMMANDS: [Row<Command>; 4] = [
+static COMMANDS: [Row<Command>; 5] = [
     (b"run", Command::Run),
     (b"gen", Command::Gen),
     (b"asm", Command::Asm),
     (b"list", Command::List),
+    (b"pack", Command::Pack),
 ];
 
 #[tactic(auto, unfolding(crate::specs::Commands::commands))]
@@ -47,6 +50,7 @@ pub(crate) struct CommandSet {
     pub(crate) generate: bool,
     pub(crate) assemble: bool,
     pub(crate) list: bool,
+    pub(crate) pack: bool,
 }
 
 impl CommandSet {
@@ -59,6 +63,7 @@ impl CommandSet {
             Command::Gen => self.generate,
             Command::Asm => self.assemble,
             Command::List => self.list,
+            Command::Pack => self.pack,
         }
     }
 }

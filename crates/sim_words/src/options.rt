@@ -45,13 +45,15 @@ const EVERY_COMMAND: CommandSet = CommandSet {
     generate: true,
     assemble: true,
     list: true,
+    pack: true,
 };
 
-const RUN_GEN_LIST: CommandSet = CommandSet {
+const ALL_BUT_ASM: CommandSet = CommandSet {
     run: true,
     generate: true,
     assemble: false,
     list: true,
+    pack: true,
 };
 
 const RUN_GEN: CommandSet = CommandSet {
@@ -59,6 +61,7 @@ const RUN_GEN: CommandSet = CommandSet {
     generate: true,
     assemble: false,
     list: false,
+    pack: false,
 };
 
 const RUN_ALONE: CommandSet = CommandSet {
@@ -66,6 +69,7 @@ const RUN_ALONE: CommandSet = CommandSet {
     generate: false,
     assemble: false,
     list: false,
+    pack: false,
 };
 
 const GEN_ALONE: CommandSet = CommandSet {
@@ -73,13 +77,14 @@ const GEN_ALONE: CommandSet = CommandSet {
     generate: true,
     assemble: false,
     list: false,
+    pack: false,
 };
 
 /// Each option by its word, and the commands that have it.
 #[rattlefmt::skip]
 static OPTIONS: [Row<(OptionName, CommandSet)>; OPTION_COUNT] = [
     (b"--base", (OptionName::Number(NumberOption::Base), EVERY_COMMAND)),
-    (b"--memory", (OptionName::Number(NumberOption::Memory), RUN_GEN_LIST)),
+    (b"--memory", (OptionName::Number(NumberOption::Memory), ALL_BUT_ASM)),
     (b"--cores", (OptionName::Number(NumberOption::Cores), RUN_GEN)),
     (b"--sets", (OptionName::Number(NumberOption::Sets), RUN_GEN)),
     (b"--ways", (OptionName::Number(NumberOption::Ways), RUN_GEN)),

@@ -407,38 +407,38 @@ fn accepts_numbers_within_bounds(rt: HostRuntime) -> Result<(), Fail> {
     Ok(())
 }
 
-/// An option with a value, and whether the commands run, gen, asm and list have it.
+/// An option with a value, and whether the commands run, gen, asm, list and pack have it.
 struct Had {
     option: &'static [u8],
     value: &'static [u8],
-    by: [bool; 4],
+    by: [bool; 5],
 }
 
 #[rattlefmt::skip]
 const HAD: [Had; 20] = [
-    Had { option: b"--base", value: b"4096", by: [true, true, true, true] },
-    Had { option: b"--memory", value: b"131072", by: [true, true, false, true] },
-    Had { option: b"--cores", value: b"2", by: [true, true, false, false] },
-    Had { option: b"--sets", value: b"8", by: [true, true, false, false] },
-    Had { option: b"--ways", value: b"2", by: [true, true, false, false] },
-    Had { option: b"--buses", value: b"2", by: [true, true, false, false] },
-    Had { option: b"--snoop", value: b"3", by: [true, true, false, false] },
-    Had { option: b"--memory-delay", value: b"9", by: [true, true, false, false] },
-    Had { option: b"--transfer", value: b"4", by: [true, true, false, false] },
-    Had { option: b"--occupancy", value: b"5", by: [true, true, false, false] },
-    Had { option: b"--slack", value: b"6", by: [true, true, false, false] },
-    Had { option: b"--interval", value: b"7", by: [true, true, false, false] },
-    Had { option: b"--limit", value: b"8", by: [true, true, false, false] },
-    Had { option: b"--quantum", value: b"9", by: [true, true, false, false] },
-    Had { option: b"--mode", value: b"bounded", by: [true, true, false, false] },
-    Had { option: b"--format", value: b"json", by: [true, true, false, false] },
-    Had { option: b"--notes", value: b"on", by: [true, true, false, false] },
-    Had { option: b"--check", value: b"on", by: [true, true, false, false] },
-    Had { option: b"--steps", value: b"t0", by: [true, false, false, false] },
-    Had { option: b"--seed", value: b"7", by: [false, true, false, false] },
+    Had { option: b"--base", value: b"4096", by: [true, true, true, true, true] },
+    Had { option: b"--memory", value: b"131072", by: [true, true, false, true, true] },
+    Had { option: b"--cores", value: b"2", by: [true, true, false, false, false] },
+    Had { option: b"--sets", value: b"8", by: [true, true, false, false, false] },
+    Had { option: b"--ways", value: b"2", by: [true, true, false, false, false] },
+    Had { option: b"--buses", value: b"2", by: [true, true, false, false, false] },
+    Had { option: b"--snoop", value: b"3", by: [true, true, false, false, false] },
+    Had { option: b"--memory-delay", value: b"9", by: [true, true, false, false, false] },
+    Had { option: b"--transfer", value: b"4", by: [true, true, false, false, false] },
+    Had { option: b"--occupancy", value: b"5", by: [true, true, false, false, false] },
+    Had { option: b"--slack", value: b"6", by: [true, true, false, false, false] },
+    Had { option: b"--interval", value: b"7", by: [true, true, false, false, false] },
+    Had { option: b"--limit", value: b"8", by: [true, true, false, false, false] },
+    Had { option: b"--quantum", value: b"9", by: [true, true, false, false, false] },
+    Had { option: b"--mode", value: b"bounded", by: [true, true, false, false, false] },
+    Had { option: b"--format", value: b"json", by: [true, true, false, false, false] },
+    Had { option: b"--notes", value: b"on", by: [true, true, false, false, false] },
+    Had { option: b"--check", value: b"on", by: [true, true, false, false, false] },
+    Had { option: b"--steps", value: b"t0", by: [true, false, false, false, false] },
+    Had { option: b"--seed", value: b"7", by: [false, true, false, false, false] },
 ];
 
-const COMMANDS: [&[u8]; 4] = [b"run", b"gen", b"asm", b"list"];
+const COMMANDS: [&[u8]; 5] = [b"run", b"gen", b"asm", b"list", b"pack"];
 
 /// The fault of words, if they have one.
 fn fault_of(alloc: Global, words: &[&[u8]]) -> Option<WordError> {
@@ -510,7 +510,13 @@ fn options_stand_once_and_with_a_value(rt: HostRuntime) {
 
 #[test]
 fn defaults_of_each_command(rt: HostRuntime) -> Result<(), Fail> {
-    let commands = [Command::Run, Command::Gen, Command::Asm, Command::List];
+    let commands = [
+        Command::Run,
+        Command::Gen,
+        Command::Asm,
+        Command::List,
+        Command::Pack,
+    ];
     for (word, command) in COMMANDS.iter().zip(&commands) {
         let order = read(rt.alloc(), &[word])?;
         assert_eq!(rt; order.command, *command);

@@ -54,6 +54,7 @@ refusal_by command.Run config bytes = image_refusal (image_told config bytes)
 refusal_by command.Gen config bytes = None
 refusal_by command.Asm config bytes = text_refusal (program_of bytes)
 refusal_by command.List config bytes = image_refusal (image_told config bytes)
+refusal_by command.Pack config bytes = image_refusal (image_told config bytes)
 
 abbrev pub refusal_of : OrderValue → List ℕ → Option Answer
 refusal_of order bytes = refusal_by order.command order.numbers bytes

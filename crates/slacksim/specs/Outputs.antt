@@ -3,6 +3,7 @@ use Rattle.std.specs.Prelude.{◌≡◌, ℕ, List, ◌++◌, IsOkAnd}
 use Rattle.slack_base.specs.declared.images.Image.{Image}
 use Rattle.slack_base.specs.declared.notes.Interval.{Interval}
 use Rattle.image_load.specs.Flat.{flat_file}
+use Rattle.image_load.specs.Packed.{packed_file}
 use Rattle.bus_model.specs.Channels.{ChannelValue}
 use Rattle.timed_core.specs.Cores.{HartValue}
 use Rattle.target_law.specs.Cycles.{StateValue}
@@ -53,12 +54,18 @@ pub record IsListOutput (order : OrderValue) (input : List ℕ) (run : RunValue)
   pub hands_back : run ≡ no_run
   pub listed : IsOkAnd (image_told order.numbers input) (λ image. IsListing image text)
 
+-- `pack`: the text is the SLK2 file of the image that the input gives
+pub record IsPackOutput (order : OrderValue) (input : List ℕ) (run : RunValue) (text : List ℕ) : Type 0 where
+  pub hands_back : run ≡ no_run
+  pub packed : IsOkAnd (image_told order.numbers input) (λ image. text ≡ packed_file image)
+
 -- what a command hands back, and the text that it writes
 abbrev pub IsOutputBy : Command → Holds → OrderValue → (input : List ℕ) → RunValue → (text : List ℕ) → Type 0
 IsOutputBy command.Run holds order input run text = IsRunOutput holds order input run text
 IsOutputBy command.Gen holds order input run text = IsGenOutput holds order run text
 IsOutputBy command.Asm holds order input run text = IsAsmOutput order input run text
 IsOutputBy command.List holds order input run text = IsListOutput order input run text
+IsOutputBy command.Pack holds order input run text = IsPackOutput order input run text
 
 abbrev pub IsOutput : Holds → OrderValue → (input : List ℕ) → RunValue → (text : List ℕ) → Type 0
 IsOutput holds order input run text = IsOutputBy order.command holds order input run text

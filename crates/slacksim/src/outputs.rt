@@ -3,6 +3,7 @@ ghost use Rattle.std.specs.Prelude.{◌≡◌, ◌<◌, ◌≤◌, ◌^◌, ◌�
 ghost use Rattle.slack_base.specs.declared.bounds.TheConstants.{GENERATED_MEMORY, MOST_CORES};
 ghost use Rattle.slack_base.specs.Images.{Fits};
 ghost use Rattle.slack_base.specs.Numbers.{numbers_of};
+ghost use Rattle.image_load.specs.Writing.{IsPackable};
 ghost use Rattle.rv_asm.specs.Programs.{IsAssembly, program_of};
 ghost use Rattle.sim_words.specs.OrderValues.{order_value};
 ghost use Rattle.stat_report.specs.Listing.{IsListing};
@@ -11,12 +12,12 @@ ghost use Rattle.slacksim.specs.Answers.{IsRefusedBy, IsWhole, answer_at, answer
 ghost use Rattle.slacksim.specs.Inputs.{image_told, image_refusal, text_refusal, refusal_by};
 ghost use Rattle.target_law.specs.Ticks.{drift_ticks_of, replay_ticks_of};
 ghost use Rattle.slacksim.specs.RunValues.{RunValue, no_run, run_value, run_of};
-ghost use Rattle.slacksim.specs.Outputs.{IsOutputBy, IsRunOutput, IsGenOutput, IsAsmOutput, IsListOutput};
+ghost use Rattle.slacksim.specs.Outputs.{IsOutputBy, IsRunOutput, IsGenOutput, IsAsmOutput, IsListOutput, IsPackOutput};
 
 use crate::answers::Answer;
 use crate::runs::run_by;
 use crate::texts::{text_of_gen, text_of_run};
-use image_load::{ImageError, flat_bytes, read_image};
+use image_load::{ImageError, flat_bytes, packed_bytes, read_image};
 use image_run::Ran;
 use io_edge::Gate;
 use lockstep_model::Machine;
@@ -68,6 +69,7 @@ pub fn output_of<R: Threads + Sync, G: Gate + Sync>(
         Command::Gen => Ok(gen_output(rt, alloc, gate, order)?),
         Command::Asm => asm_output(alloc, order, input),
         Command::List => list_output(alloc, order, input),
+        Command::Pack => pack_output(alloc, order, input),
     }
 }
 
@@ -136,10 +138,24 @@ fn list_output(alloc: Global, order: &Order, input: &[u8]) -> Result<Output, Ans
     Ok(written(text))
 }
 
+/// `pack`: the SLK2 file of the image that the input gives.
+fn pack_output(alloc: Global, order: &Order, input: &[u8]) -> Result<Output, Answer>
+    ensures output { IfOk result (λ out. IsPackOutput (order_value order.now) input.now (run_value out.run) out.text) }
+    ensures answer { IfOk result (λ out. out.answer ≡ answer_at (run_value out.run).end) }
+    ensures whole { IfOk result (λ out. IsWhole out.answer) }
+    ensures accepted { IfOk result (λ _. image_refusal (image_told (numbers_of order.now.config) input.now) ≡ None) }
+    ensures refused { IfErr result (IsRefusedBy (image_refusal (image_told (numbers_of order.now.config) input.now))) }
+{
+    let image = image_in(alloc, &order.config, input)?;
+    let text = packed_bytes(alloc, &image)?;
+    Ok(written(text))
+}
+
 /// The image of a file.
 fn image_in(alloc: Global, config: &Config, input: &[u8]) -> Result<Image, Answer>
     ensures image { IfOk result (λ image. image_told (numbers_of config.now) input.now ≡ Ok image) }
     ensures fits { IfOk result (λ image. Fits config.now.base config.now.memory image) }
+    ensures packable { IfOk result (λ image. IsPackable image) }
     ensures refused { IfErr result (IsRefusedBy (image_refusal (image_told (numbers_of config.now) input.now))) }
 {
     match read_image(alloc, input, config) {

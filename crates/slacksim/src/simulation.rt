@@ -22,8 +22,8 @@ use std::thread::Threads;
 
 /// Carries out the command that the words give over the bytes of the source, and writes its text to the sink.
 ///
-/// `run` runs an image and `gen` a generated program, in one of five modes; `asm` assembles a text, and `list`
-/// lists an image.
+/// `run` runs an image and `gen` a generated program, in one of five modes; `asm` assembles a text, `list` lists an
+/// image, and `pack` writes one as a packed file.
 pub fn simulate<R: Threads + Sync, S: Source, W: Sink, G: Gate + Sync>(
     rt: &R,
     alloc: Global,

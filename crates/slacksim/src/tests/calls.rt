@@ -9,6 +9,10 @@ const ALL_ZERO: Answer = Answer::Done { all_zero: true };
 /// The flat file of an exit with 0, as it is worked out by hand.
 pub const EXIT: &[u8] = b"SLK1\0\0\0\0\0\0\0\0\x0c\0\0\0\x93\x08\xd0\x05\x13\x05\0\0\x73\0\0\0";
 
+/// The packed file of the same image.
+const PACKED_EXIT: &[u8] =
+    b"SLK2\0\0\0\0\x01\0\0\0\0\0\0\0\x0c\0\0\0\x0c\0\0\0\x93\x08\xd0\x05\x13\x05\0\0\x73\0\0\0";
+
 /// A flat file of `lui x8, 1`, `sw x10, 0(x8)` and an exit with 0.
 pub const STORE: &[u8] =
     b"SLK1\0\0\0\0\0\0\0\0\x14\0\0\0\x37\x14\0\0\x23\x20\xa4\0\x93\x08\xd0\x05\x13\x05\0\0\x73\0\0\0";
@@ -21,7 +25,7 @@ pub const GENERATED: &[u8] =
     b"gen 7 words 1005\ncores 4\ncycles 6422\ncore 0 exit 0 at 6346 retired 1005 accesses 371 misses 402 retries 121 waits 2688 snoops 241 writebacks 0\ncore 1 exit 0 at 6421 retired 1005 accesses 371 misses 436 retries 163 waits 2729 snoops 290 writebacks 0\ncore 2 exit 0 at 6401 retired 1005 accesses 371 misses 392 retries 112 waits 2753 snoops 281 writebacks 0\ncore 3 exit 0 at 6407 retired 1005 accesses 371 misses 416 retries 154 waits 2735 snoops 276 writebacks 0\nbus 0 asks 2530 retries 550 free 6391\nconsole 0\n\n";
 
 /// Calls that give a text, or are refused for their input.
-const TEXTS: [Case; 11] = [
+const TEXTS: [Case; 14] = [
     Case {
         words: &["asm"],
         input: b"addi a7, x0, 93\naddi a0, x0, 0\necall\n",
@@ -66,6 +70,27 @@ const TEXTS: [Case; 11] = [
         status: 0,
         answer: ALL_ZERO,
         text: b"00000000 05d00893 addi x17, x0, 93\n00000004 00000513 addi x10, x0, 0\n00000008 00000073 ecall\n",
+    },
+    Case {
+        words: &["pack"],
+        input: EXIT,
+        status: 0,
+        answer: ALL_ZERO,
+        text: PACKED_EXIT,
+    },
+    Case {
+        words: &["pack", "--base", "4096", "--memory", "4096"],
+        input: PACKED_EXIT,
+        status: 3,
+        answer: Answer::BadImage(ImageFault::Outside { index: 0 }),
+        text: b"",
+    },
+    Case {
+        words: &["run"],
+        input: PACKED_EXIT,
+        status: 0,
+        answer: ALL_ZERO,
+        text: b"cores 1\ncycles 3\ncore 0 exit 0 at 2 retired 3 accesses 0 misses 0 retries 0 waits 0 snoops 0 writebacks 0\nbus 0 asks 0 retries 0 free 0\nconsole 0\n\n",
     },
     Case {
         words: &["run", "--format", "json"],

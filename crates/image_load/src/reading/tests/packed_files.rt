@@ -153,15 +153,16 @@ fn pieces(rt: HostRuntime) -> Result<(), Fail> {
     let config = config().ok_or("the numbers are within their bounds")?;
     let alloc = rt.alloc();
     let file = packed_file(alloc, 8, &[(16, 4, 9), (3, 0, 0), (8, 2, 2)], 12)?;
-    let mut image = one_segment(alloc, 8, 16, &[0x93, 0x08, 0xd0, 0x05], 9)?;
-    image.segments.push(Segment {
+    let image = read_image(alloc, &file, &config)?;
+    let packed = packed_bytes(alloc, &image)?;
+    let again = packed_file(alloc, 8, &[(16, 4, 9), (8, 2, 2)], 6)?;
+    assert_eq!(rt; packed.as_slice(), again.as_slice());
+    let mut expected = one_segment(alloc, 8, 16, &[0x93, 0x08, 0xd0, 0x05], 9)?;
+    expected.segments.push(Segment {
         address: 8,
         bytes: ByteList::of(Vec::from_slice(alloc, &[0x13, 0x05])?),
         size: 2,
     })?;
-    assert_eq!(rt; read_image(alloc, &file, &config)?, image);
-    let again = packed_file(alloc, 8, &[(16, 4, 9), (8, 2, 2)], 6)?;
-    let packed = packed_bytes(alloc, &image)?;
-    assert_eq!(rt; packed.as_slice(), again.as_slice());
+    assert_eq!(rt; image, expected);
     Ok(())
 }
