@@ -1,5 +1,5 @@
 -- No line breaks in the machine that is handed back of a run that ended as lockstep does.
-use Rattle.std.proofs.Common.{◌≡◌, ◌∙◌, ℕ, Bool, true, List, [], Option, IsTrue, inl, inr, codes, refl, ap, subst}
+use Rattle.std.proofs.Common.{◌≡◌, ◌∙◌, ℕ, Bool, true, List, [], Option, IsTrue, inl, inr, codes, ap, subst}
 use Rattle.std.specs.Fmt.{digits}
 use Rattle.slack_base.specs.declared.images.Image.{Image}
 use Rattle.slack_base.specs.declared.notes.Interval.{Interval}

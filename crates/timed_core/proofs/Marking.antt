@@ -1,5 +1,5 @@
 -- What a cache was at its mark, as its sets change.
-use Rattle.std.proofs.Common.{◌≡◌, ◌∙◌, ℕ, ◌≤◌, Bool, true, false, List, [], Option, Some, length, length-set, refl, ap, arith}
+use Rattle.std.proofs.Common.{◌≡◌, ◌∙◌, ℕ, Bool, true, false, List, Some, length, length-set, refl, ap, arith}
 use Rattle.mesi_cache.specs.declared.lines.CacheLine.{CacheLine}
 use Rattle.mesi_cache.specs.Caches.{CacheValue, set_number, with_set}
 use Rattle.timed_core.specs.Journals.{SetsValue, IsReadyFor, HasRoom, cache_then, restored, is_noted}

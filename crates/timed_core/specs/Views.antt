@@ -1,12 +1,10 @@
 -- What a core's parts are, now and at its mark.
-use Rattle.std.specs.Prelude.{ℕ, Bool, List, Option, Some, None}
-use Rattle.slack_base.specs.declared.cores.CoreEnd.{CoreEnd}
-use Rattle.slack_base.specs.declared.cores.Counts.{Counts}
+use Rattle.std.specs.Prelude.{Option, Some, None}
 use Rattle.slack_base.specs.Inboxes.{CoreValue}
 use Rattle.mesi_cache.specs.Caches.{CacheValue}
 use Rattle.timed_core.specs.Cores.{HartValue}
 use Rattle.timed_core.specs.declared.marks.Saved.{Saved}
-use Rattle.timed_core.specs.Parts.{PartsValue, hart_of}
+use Rattle.timed_core.specs.Parts.{hart_of}
 
 -- a hart, and the cache that it had at its mark, if it is marked
 pub record NotedHart : Type 0 where

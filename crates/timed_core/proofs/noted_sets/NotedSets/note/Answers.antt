@@ -1,8 +1,7 @@
-use Rattle.std.proofs.Common.{◌≡◌, ◌∙◌, ℕ, ◌<◌, ◌≤◌, ◌++◌, ◌∷◌, [], List, true, false, length, get_or, refl, sym, ap, subst, arith}
+use Rattle.std.proofs.Common.{◌≡◌, ◌∙◌, ◌<◌, ◌≤◌, [], List, true, false, length, get_or, refl, sym, ap, subst, arith}
 use Rattle.std.specs.Prelude.{slice_set, vec_capacity}
 use Rattle.std.proofs.lemmas.List.{get_or_read, get_or_default}
-use Rattle.mesi_cache.specs.declared.lines.CacheLine.{CacheLine}
-use Rattle.mesi_cache.specs.Caches.{CacheValue, set_number}
+use Rattle.mesi_cache.specs.Caches.{set_number}
 use Rattle.timed_core.specs.declared.noted_sets.SetNote.{SetNote}
 use Rattle.timed_core.specs.Journals.{SetsValue, IsFlagged, restored, is_noted}
 use Rattle.timed_core.proofs.Flagging.{flagged-push, noted-last, one-down}

@@ -1,5 +1,4 @@
-use Rattle.std.proofs.Common.{◌≡◌, ◌∙◌, ◌<◌, ◌++◌, ◌∷◌, [], List, length, sym, ap, subst, arith}
-use Rattle.mesi_cache.specs.Copies.{CanHold}
+use Rattle.std.proofs.Common.{◌≡◌, ◌∙◌, ◌++◌, ◌∷◌, [], List, length, sym, ap, subst}
 use Rattle.timed_core.specs.declared.noted_sets.SetNote.{SetNote}
 use Rattle.timed_core.specs.Journals.{SetsValue, IsFlagged, IsNoteOf, restored}
 use Rattle.timed_core.proofs.Flagging.{flagged-pop, last-proper}
