@@ -114,6 +114,29 @@ fn marked(code: &Code, alloc: Global) -> Result<TimedCore, Fail>
     Ok(core)
 }
 
+/// The core marked at cycle 2, before a later cycle.
+fn gone_on(code: &Code, alloc: Global, until: u32) -> Result<TimedCore, Fail>
+    ensures { IfOk result (λ core. IsSome core.saved) }
+{
+    let mut core = marked(code, alloc)?;
+    go_on(&mut core, code, alloc, 2, until)?;
+    Ok(core)
+}
+
+/// The core marked at cycle 2, and once more at cycle 8.
+fn marked_again(code: &Code, alloc: Global) -> Result<TimedCore, Fail>
+    ensures { IfOk result (λ core. IsSome core.saved) }
+{
+    let mut core = gone_on(code, alloc, 8)?;
+    core.mark()?;
+    Ok(core)
+}
+
+fn noted_before(code: &Code, alloc: Global, until: u32) -> Result<u64, Fail> {
+    let core = gone_on(code, alloc, until)?;
+    Ok(core.noted())
+}
+
 /// How many sets are noted before each cycle.
 const NOTED: [(u32, u64); 8] = [
     (2, 0),
@@ -130,42 +153,29 @@ const NOTED: [(u32, u64); 8] = [
 fn sets_are_noted_as_they_change(rt: HostRuntime) -> Result<(), Fail> {
     let code = code(&rt, rt.alloc())?;
     for (until, noted) in NOTED {
-        let mut core = marked(&code, rt.alloc())?;
-        go_on(&mut core, &code, rt.alloc(), 2, until)?;
-        assert_eq!(rt; core.noted(), noted, "{until}");
+        assert_eq!(rt; noted_before(&code, rt.alloc(), until)?, noted, "{until}");
     }
     Ok(())
 }
 
-/// The second mark notes nothing of what was noted since the first; nor does one after the first was given up.
+/// The second mark notes nothing of what was noted since the first.
 #[test]
 fn a_mark_forgets_what_was_noted(rt: HostRuntime) -> Result<(), Fail> {
     let code = code(&rt, rt.alloc())?;
-    let mut core = marked(&code, rt.alloc())?;
-    go_on(&mut core, &code, rt.alloc(), 2, 8)?;
-    core.mark()?;
+    let mut core = marked_again(&code, rt.alloc())?;
     assert_eq!(rt; core.noted(), 0);
     go_on(&mut core, &code, rt.alloc(), 8, 10)?;
     assert_eq!(rt; core.noted(), 1);
-    core.keep();
-    core.mark()?;
-    assert_eq!(rt; core.noted(), 0);
     Ok(())
 }
 
 #[test]
 fn noted_sets_are_put_back(rt: HostRuntime) -> Result<(), Fail> {
     let code = code(&rt, rt.alloc())?;
-    let mut core = marked(&code, rt.alloc())?;
+    let mut core = gone_on(&code, rt.alloc(), 11)?;
+    assert_eq!(rt; what_is_told(&core), LATER);
+    core.undo();
     assert_eq!(rt; what_is_told(&core), AT_MARK);
     assert_eq!(rt; the_rest(&core), MORE_AT_MARK);
-    for _round in 0..2u32 {
-        go_on(&mut core, &code, rt.alloc(), 2, 11)?;
-        assert_eq!(rt; what_is_told(&core), LATER);
-        core.undo();
-        assert_eq!(rt; what_is_told(&core), AT_MARK);
-        assert_eq!(rt; the_rest(&core), MORE_AT_MARK);
-        core.mark()?;
-    }
     Ok(())
 }
