@@ -22,5 +22,5 @@ module _ {X : Type 0} where
 pub noted-requires : goal.noted-requires
 noted-requires c = at {X = CoreValue HartValue} c.args.machine.now.cores c.requires.0.cores 0 c.in_ok-core.core.now c.requires.1.cores c.get.ensures
 
-pub noted-2-requires : goal.noted-2-requires
-noted-2-requires c = at {X = ChannelValue} c.args.machine.now.chans c.requires.0.chans 0 c.in_ok-bus.bus.now c.requires.1.chans c.get-2.ensures
+pub noted-requires-2 : goal.noted-requires-2
+noted-requires-2 c = at {X = ChannelValue} c.args.machine.now.chans c.requires.0.chans 0 c.in_ok-bus.bus.now c.requires.1.chans c.get-2.ensures
