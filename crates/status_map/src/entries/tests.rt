@@ -69,7 +69,7 @@ fn sends(
 ) -> bool {
     let id = Id {
         cycle: 77,
-        core: core % 8,
+        core: core % 16,
         number: 3,
     };
     let grant = u64::from(grant);
