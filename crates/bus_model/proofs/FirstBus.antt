@@ -1,16 +1,16 @@
 -- A bus before the first cycle.
-use Rattle.std.proofs.Common.{◌≡◌, ◌∙◌, ℕ, ◌+◌, ◌*◌, ◌/◌, ◌<◌, ◌≤◌, List, Option, None, get_or, refl, ap, arith}
+use Rattle.std.proofs.Common.{◌≡◌, ◌∙◌, ℕ, ◌+◌, ◌*◌, ◌/◌, ◌<◌, ◌≤◌, List, [], get_or, refl, ap, arith}
 use Rattle.std.specs.List.{range_with_len}
 use Rattle.std.proofs.Math.Nat.{mul-le-mul_left}
 use Rattle.std.proofs.lemmas.List.FromFn.{length-map-range_with_len}
 use Rattle.std.proofs.lemmas.List.Elements.{All-map}
 use Rattle.slack_base.specs.declared.configs.RawConfig.{RawConfig}
 use Rattle.slack_base.specs.declared.images.Image.{Image}
-use Rattle.slack_base.specs.declared.stamps.Id.{Id}
 use Rattle.slack_base.specs.LittleEndian.{words_at}
 use Rattle.first_memory.specs.Memory.{bytes_from}
 use Rattle.status_map.specs.declared.views.EntryView.{EntryView}
 use Rattle.status_map.specs.Entries.{NamesBelow}
+use Rattle.slot_calendar.specs.declared.slots.Slot.{Slot}
 use Rattle.bus_model.specs.Channels.{IsSoundBus}
 use Rattle.slack_base.specs.Numbers.{lines_of}
 use Rattle.bus_model.specs.Settings.{SettingValue, setting_of}
@@ -42,8 +42,8 @@ first-sound config image number low = record {
   named = All-map (λ (e : EntryView). NamesBelow config.cores e.kind) (λ place. first_entry config image (number + config.buses * place)) (range_with_len 0 (lines_of config / config.buses)) (λ k d h. tt);
 }
 
-pub first-is : (config : RawConfig) (image : Image) (number : ℕ) (setting : SettingValue) (entries : List EntryView) (highest : Option Id)
-    → setting ≡ setting_of config number → entries ≡ first_entries config image number → highest ≡ None
-    → record { setting = setting; free = 0; asks = 0; retries = 0; entries = entries; highest = highest } ≡ first_bus config image number
+pub first-is : (config : RawConfig) (image : Image) (number : ℕ) (setting : SettingValue) (entries : List EntryView) (slots : List Slot)
+    → setting ≡ setting_of config number → entries ≡ first_entries config image number → slots ≡ []
+    → record { setting = setting; free = 0; asks = 0; retries = 0; entries = entries; slots = slots } ≡ first_bus config image number
 unfolding first_bus
-first-is config image number setting entries highest h_setting h_entries h_highest = rw (h_setting, h_entries, h_highest) refl
+first-is config image number setting entries slots h_setting h_entries h_slots = rw (h_setting, h_entries, h_slots) refl

@@ -1,5 +1,5 @@
 -- Every channel is lawful.
-use Rattle.std.proofs.Common.{◌≡◌, ◌∙◌, ℕ, ◌/◌, ◌<◌, List, [], Option, None, Some, unwrap_or, refl, sym, subst, arith, nat_lt}
+use Rattle.std.proofs.Common.{◌≡◌, ◌∙◌, ℕ, ◌/◌, ◌<◌, ◌≤◌, List, [], Option, None, Some, unwrap_or, refl, sym, subst, arith, nat_lt}
 use Rattle.std.specs.List.{All}
 use Rattle.std.proofs.lemmas.List.{length-set}
 use Rattle.std.proofs.lemmas.List.Elements.{All-nil, All-map, All-set}
@@ -13,9 +13,13 @@ use Rattle.status_map.specs.Entries.{NamesBelow}
 use Rattle.status_map.specs.Table.{row, owns, post_of, serve}
 use Rattle.status_map.specs.Laws.{AreAtLeast}
 use Rattle.status_map.proofs.Lawful.{all_lawful}
+use Rattle.slack_base.specs.declared.stamps.Id.{Id}
+use Rattle.slot_calendar.specs.declared.slots.Slot.{Slot}
+use Rattle.slot_calendar.specs.Slots.{grant_by}
+use Rattle.slot_calendar.specs.Asks.{clash_of}
 use Rattle.bus_model.specs.Settings.{SettingValue}
 use Rattle.bus_model.specs.Channels.{BusValue, AsBus, AsConsole, IsSoundBus, entry_of}
-use Rattle.bus_model.specs.Serving.{grant_of, granted, on_entry, on_line, noted, bus_served, served}
+use Rattle.bus_model.specs.Serving.{for_bus, grant_of, granted, on_entry, on_line, bus_served, served}
 use Rattle.bus_model.specs.Laws.{IsSlowMemory, IsLawful, AllLawful, AllMayServe, lookahead_of}
 use Rattle.bus_model.specs.Asks.{IsAskOf}
 
@@ -42,6 +46,14 @@ carried d grant ask line e h =
     All-map (λ (p : Post). Some p.line ≡ line_of ask) (post_of (id_of ask) (unwrap_or (line_of ask) 0) grant) (row d e.words ask e.kind (owns (id_of ask).core e.kind) (nat_lt grant e.settled)).sendings
     (λ k x lt. line-kept (line_of ask) line h)
 
+-- a grant comes no sooner than the stamp
+by_clash : (o : Option Id) (occupancy free stamp : ℕ) (x : Id) (slots : List Slot) → stamp ≤ grant_by o occupancy free stamp x slots
+by_clash None occupancy free stamp x slots = omega arith
+by_clash (Some high) occupancy free stamp x slots = omega arith
+
+pub grant_late : (b : BusValue) (ask : Ask) → (id_of ask).cycle ≤ grant_of b ask
+grant_late b ask = by_clash (clash_of b.setting.occupancy b.free (for_bus ask) b.slots) b.setting.occupancy b.free (id_of ask).cycle (id_of ask) b.slots
+
 -- the entry of a line names cores of the machine
 entry-named : (b : BusValue) (line : ℕ) (e : EntryView) → IsSoundBus b → entry_of b line ≡ Some e → NamesBelow b.setting.cores e.kind
 entry-named b line e s at_line =
@@ -61,18 +73,18 @@ granted-lawful b ask line e slow s low of_line at_line =
       sound = record {
         number = s.number;
         count = length-set b.entries (line / b.setting.buses) _ ∙ s.count;
-        free = omega arith;
+        free = s.free;
         asks = omega arith;
         retries = omega arith;
         named = All-set (λ (v : EntryView). NamesBelow b.setting.cores v.kind) b.entries (line / b.setting.buses) _ is.named s.named;
       };
       same = refl;
-      free = omega (arith, s.free);
+      free = omega arith;
       posts = λ k d lt. record {
         to = is.received k d lt;
         id = is.carried k d lt;
         line = carried b.setting.delays grant ask line e of_line k d lt;
-        due = let late = is.due k d lt in omega arith;
+        due = let late = is.due k d lt in omega (arith, grant_late b ask);
       };
       once = is.once;
     }
@@ -87,14 +99,9 @@ on-line : (b : BusValue) (ask : Ask) → IsSlowMemory b.setting.delays → IsSou
 on-line b ask slow s low None of_line = unchanged b ask s
 on-line b ask slow s low (Some line) of_line = on-entry b ask line slow s low of_line (entry_of b line) refl
 
--- the greatest id plays no part
 bus-lawful : (b : BusValue) (ask : Ask) → IsSlowMemory b.setting.delays → IsSoundBus b → (id_of ask).core < b.setting.cores → IsLawfulBus b ask (bus_served b ask)
 unfolding bus_served
-bus-lawful b ask slow s low =
-    let noting : BusValue = record b { highest = noted b.highest ask } in
-    let sound : IsSoundBus noting = record { number = s.number; count = s.count; free = s.free; asks = s.asks; retries = s.retries; named = s.named } in
-    let is = on-line noting ask slow sound low (line_of ask) refl in
-    record { sound = is.sound; same = is.same; free = is.free; posts = is.posts; once = is.once }
+bus-lawful b ask slow s low = on-line b ask slow s low (line_of ask) refl
 
 pub channels-lawful : AllLawful
 unfolding served

@@ -2,9 +2,10 @@ pub mod ClosingLaws
 pub mod FirstBus
 pub mod Flagging
 pub mod Granting
-pub mod Ids
+pub mod Keeping
 pub mod Lawful
 pub mod Marking
 pub mod Places
 pub mod Restoring
+pub mod Swaps
 pub mod Words

@@ -5,7 +5,7 @@ use Rattle.std.specs.Option.{option_map}
 use Rattle.slack_base.specs.declared.bounds.TheConstants.{TOP}
 use Rattle.slack_base.specs.Growing.{raised}
 use Rattle.status_map.specs.declared.views.EntryView.{EntryView}
-use Rattle.bus_model.specs.declared.counters.Counters.{Counters}
+use Rattle.bus_model.specs.declared.buses.BusMark.{BusMark}
 use Rattle.bus_model.specs.Channels.{BusValue, IsSoundBus}
 use Rattle.bus_model.specs.Journals.{LinesValue, IsReady, restored}
 use Rattle.bus_model.specs.Settings.{SettingValue}
@@ -22,31 +22,31 @@ at_place (entry ∷ entries) (suc place) inside = at_place entries place (omega 
 abbrev pub changed : LinesValue → ℕ → EntryView → LinesValue
 changed lines place entry = record { entries = slice_set lines.entries place entry; journal = lines.journal }
 
-abbrev pub saved_by : SettingValue → Option Counters → LinesValue → Option BusValue
-saved_by setting mark lines = option_map (λ m. bus_with setting m (restored lines.entries lines.journal)) mark
+abbrev pub saved_by : SettingValue → Option BusMark → LinesValue → Option BusValue
+saved_by setting mark lines = option_map (λ m. bus_with setting m.counters (restored lines.entries lines.journal) m.calendar) mark
 
 module _ (place : ℕ) (before after : LinesValue) (entry : EntryView) where
   pub restored-changed : IsReady place true before after → restored (slice_set after.entries place entry) after.journal ≡ restored before.entries before.journal
   restored-changed ready = restored-change after.entries after.journal place entry (ready.noted refl) ∙ ready.kept
 
-  pub saved-changed : (setting : SettingValue) (mark : Option Counters) → IsReady place (is_some mark) before after
+  pub saved-changed : (setting : SettingValue) (mark : Option BusMark) → IsReady place (is_some mark) before after
       → saved_by setting mark (changed after place entry) ≡ saved_by setting mark before
   saved-changed setting None ready = refl
-  saved-changed setting (Some m) ready = ap (λ (es : List EntryView). Some (bus_with setting m es)) (restored-changed ready)
+  saved-changed setting (Some m) ready = ap (λ (es : List EntryView). Some (bus_with setting m.counters es m.calendar)) (restored-changed ready)
 
-  pub sound-changed : (setting : SettingValue) (mark : Option Counters) → IsReady place (is_some mark) before after
-      → IfSome mark (λ m. IsSoundBus (bus_with setting m (restored before.entries before.journal)))
-      → IfSome mark (λ m. IsSoundBus (bus_with setting m (restored (slice_set after.entries place entry) after.journal)))
+  pub sound-changed : (setting : SettingValue) (mark : Option BusMark) → IsReady place (is_some mark) before after
+      → IfSome mark (λ m. IsSoundBus (bus_with setting m.counters (restored before.entries before.journal) m.calendar))
+      → IfSome mark (λ m. IsSoundBus (bus_with setting m.counters (restored (slice_set after.entries place entry) after.journal) m.calendar))
   sound-changed setting None ready sound = sound
-  sound-changed setting (Some m) ready sound = subst (λ (es : List EntryView). IsSoundBus (bus_with setting m es)) (sym (restored-changed ready)) sound
+  sound-changed setting (Some m) ready sound = subst (λ (es : List EntryView). IsSoundBus (bus_with setting m.counters es m.calendar)) (sym (restored-changed ready)) sound
 
-pub few-changed : (place asks : ℕ) (before after : LinesValue) (mark : Option Counters) → IsReady place (is_some mark) before after
-    → IfSome mark (λ m. asks < TOP → m.asks + length before.journal ≤ asks)
-    → IfSome mark (λ m. raised asks < TOP → m.asks + length after.journal ≤ raised asks)
+pub few-changed : (place asks : ℕ) (before after : LinesValue) (mark : Option BusMark) → IsReady place (is_some mark) before after
+    → IfSome mark (λ m. asks < TOP → m.counters.asks + length before.journal ≤ asks)
+    → IfSome mark (λ m. raised asks < TOP → m.counters.asks + length after.journal ≤ raised asks)
 few-changed place asks before after None ready few = few
 few-changed place asks before after (Some m) ready few = λ low. let h = few (omega arith) in omega (arith, h, ready.few)
 
-pub unmarked-changed : (place : ℕ) (before after : LinesValue) (mark : Option Counters) → IsReady place (is_some mark) before after
+pub unmarked-changed : (place : ℕ) (before after : LinesValue) (mark : Option BusMark) → IsReady place (is_some mark) before after
     → IfNone mark (before.journal ≡ []) → IfNone mark (after.journal ≡ [])
 unmarked-changed place before after None ready none = ready.unmarked refl ∙ none
 unmarked-changed place before after (Some m) ready none = none

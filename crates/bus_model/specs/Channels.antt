@@ -4,17 +4,19 @@ use Rattle.slack_base.specs.declared.bounds.TheConstants.{TOP}
 use Rattle.slack_base.specs.declared.stamps.Id.{Id}
 use Rattle.status_map.specs.declared.views.EntryView.{EntryView}
 use Rattle.status_map.specs.Entries.{NamesBelow}
+use Rattle.slot_calendar.specs.declared.slots.Slot.{Slot}
 use Rattle.bus_model.specs.Settings.{SettingValue}
 
--- a bus: the cycle from which it is free, the asks that it has served and the retries that it has sent, the entries of
--- its lines in the order of the lines, and the greatest id that it served since it was closed, if it served one
+-- a bus: the cycle from which it was free when it was closed last, the asks that it has served and the retries that it has
+-- sent, the entries of its lines in the order of the lines, and its calendar: the slots of the asks that it granted since it
+-- was closed, in the order of their ids
 pub record BusValue : Type 0 where
   pub setting : SettingValue
   pub free : ℕ
   pub asks : ℕ
   pub retries : ℕ
   pub entries : List EntryView
-  pub highest : Option Id
+  pub slots : List Slot
 
 -- the console: the bytes that were put on it, and the greatest id that it served since it was closed
 pub record ConsoleValue : Type 0 where
@@ -29,11 +31,6 @@ pub data ChannelValue : Type 0 where
 abbrev pub bus_setting : ChannelValue → Option SettingValue
 bus_setting (AsBus b) = Some b.setting
 bus_setting (AsConsole c) = None
-
--- the greatest id that the channel served since it was closed
-abbrev pub highest_of : ChannelValue → Option Id
-highest_of (AsBus b) = b.highest
-highest_of (AsConsole c) = c.highest
 
 -- the entry of a line of the bus: the bus has every line whose number has its own for a remainder
 abbrev pub entry_of : BusValue → ℕ → Option EntryView

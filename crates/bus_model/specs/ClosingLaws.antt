@@ -1,12 +1,12 @@
--- What closing keeps, and what the greatest id since then says and changes.
-use Rattle.std.specs.Prelude.{◌≡◌, ◌↔◌, List, None, false, true}
-use Rattle.std.specs.List.{AllByRecursion}
+-- What closing keeps, and of which asks it makes no difference whether they come in the order of their ids.
+use Rattle.std.specs.Prelude.{◌≡◌, ◌≢◌, ◌/◌, ℕ, IsTrue, List, Option, None, Some, IfSome}
+use Rattle.std.specs.List.{AllByRecursion as Each}
 use Rattle.slack_base.specs.declared.messages.Ask.{Ask}
-use Rattle.slack_base.specs.Messages.{id_of}
+use Rattle.slack_base.specs.Messages.{id_of, line_of}
 use Rattle.slack_base.specs.Stamps.{is_above}
 use Rattle.bus_model.specs.Settings.{SettingValue}
-use Rattle.bus_model.specs.Channels.{ChannelValue, IsSound, highest_of}
-use Rattle.bus_model.specs.Serving.{noted, served, served_all}
+use Rattle.bus_model.specs.Channels.{ChannelValue, AsBus, AsConsole, IsSound}
+use Rattle.bus_model.specs.Serving.{served, served_all}
 use Rattle.bus_model.specs.Closing.{clash, closed}
 use Rattle.bus_model.specs.Laws.{HasSetting}
 
@@ -19,34 +19,47 @@ pub record IsClosed (s : SettingValue) (after : ChannelValue) : Type 0 where
 abbrev pub AllClose : Type 0
 AllClose = (s : SettingValue) (c : ChannelValue) → IsSound c → HasSetting s c → IsClosed s (closed c)
 
--- of an ask a closed channel makes what the open one makes: they differ in the greatest id alone
+-- these asks have ids below that of x
+abbrev pub AllBelow : Ask → List Ask → Type 0
+AllBelow x asks = Each (λ y. IsTrue (is_above (id_of x) (id_of y))) asks
+
+-- the ask has an id above all that the channel keeps since it was closed
+abbrev pub IsLast : Ask → ChannelValue → Type 0
+IsLast x (AsBus b) = Each (λ s. IsTrue (is_above (id_of x) s.id)) b.slots
+IsLast x (AsConsole c) = IfSome c.highest (λ high. IsTrue (is_above (id_of x) high))
+
+-- the ask clashes with nothing, and sees nothing of a closing just before it
 pub record IsReopened (c : ChannelValue) (ask : Ask) : Type 0 where
+  pub free : clash c ask ≡ None
   pub posts : (served (closed c) ask).1 ≡ (served c ask).1
   pub value : closed (served (closed c) ask).0 ≡ closed (served c ask).0
 
 abbrev pub AllReopen : Type 0
-AllReopen = (c : ChannelValue) (ask : Ask) → IsReopened c ask
+AllReopen = (c : ChannelValue) (ask : Ask) → IsLast ask c → IsReopened c ask
 
--- each ask that is served counts for the greatest id
-abbrev pub AllNoted : Type 0
-AllNoted = (c : ChannelValue) (ask : Ask) → highest_of (served c ask).0 ≡ noted (highest_of c) ask
+-- after some asks on a closed channel one with an id above all of theirs is such an ask
+abbrev pub AllLast : Type 0
+AllLast = (c : ChannelValue) (asks : List Ask) (x : Ask) → closed c ≡ c → AllBelow x asks → IsLast x (served_all c asks).0
 
--- these asks have no id above that of x
-abbrev pub NoneAbove : Ask → List Ask → Type 0
-NoneAbove x asks = AllByRecursion (λ y. is_above (id_of y) (id_of x) ≡ false) asks
+-- the lines of two asks, if both have one, have different places on a bus
+abbrev pub AreLinesApart : (buses : ℕ) → Option ℕ → Option ℕ → Type 0
+AreLinesApart buses None other = Unit {0}
+AreLinesApart buses (Some line) None = Unit {0}
+AreLinesApart buses (Some line) (Some other) = line / buses ≢ other / buses
 
--- these asks have ids below that of x
-abbrev pub AllBelow : Ask → List Ask → Type 0
-AllBelow x asks = AllByRecursion (λ y. is_above (id_of x) (id_of y) ≡ true) asks
+abbrev pub AreApart : ChannelValue → Ask → Ask → Type 0
+AreApart (AsBus b) x y = AreLinesApart b.setting.buses (line_of x) (line_of y)
+AreApart (AsConsole c) x y = Unit {0}
 
--- after some asks on a closed channel one more doesn't clash exactly where none of them has an id above its own
-abbrev pub AllInTurn : Type 0
-AllInTurn =
-    (c : ChannelValue) (asks : List Ask) (x : Ask)
-    → closed c ≡ c → (clash (served_all c asks).0 x ≡ None) ↔ NoneAbove x asks
+-- the channel makes the same of two asks in either order, and the first of them has no clash in either
+pub record IsSwap (c : ChannelValue) (x y : Ask) : Type 0 where
+  pub free : clash c x ≡ None
+  pub value : (served (served c y).0 x).0 ≡ (served (served c x).0 y).0
+  pub posts_x : (served (served c y).0 x).1 ≡ (served c x).1
+  pub posts_y : (served (served c x).0 y).1 ≡ (served c y).1
 
--- so one doesn't where its id is above all of theirs
-abbrev pub AllLastFree : Type 0
-AllLastFree =
-    (c : ChannelValue) (asks : List Ask) (x : Ask)
-    → closed c ≡ c → AllBelow x asks → clash (served_all c asks).0 x ≡ None
+-- x has the lower id, y one above all others, their lines are different ones, and x doesn't clash behind y
+abbrev pub AllSwap : Type 0
+AllSwap =
+    (c : ChannelValue) (x y : Ask)
+    → IsTrue (is_above (id_of y) (id_of x)) → IsLast y c → AreApart c x y → clash (served c y).0 x ≡ None → IsSwap c x y

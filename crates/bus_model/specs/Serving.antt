@@ -1,5 +1,5 @@
 -- What an ask does to its channel, and the posts that come of it.
-use Rattle.std.specs.Prelude.{ℕ, ◌+◌, ◌/◌, Bool, true, false, List, [], ◌∷◌, ◌++◌, Option, None, Some, max, count_by, slice_set}
+use Rattle.std.specs.Prelude.{ℕ, ◌+◌, ◌/◌, Bool, true, false, List, [], ◌∷◌, ◌++◌, Option, None, Some, count_by, slice_set}
 use Rattle.slack_base.specs.declared.messages.Ask.{Ask}
 use Rattle.slack_base.specs.declared.messages.Ask.TheVariants.{Put}
 use Rattle.slack_base.specs.declared.messages.Post.{Post}
@@ -11,6 +11,8 @@ use Rattle.slack_base.specs.HighestIds.{later_of}
 use Rattle.slack_base.specs.Messages.{id_of, line_of}
 use Rattle.status_map.specs.declared.views.EntryView.{EntryView}
 use Rattle.status_map.specs.Table.{serve}
+use Rattle.slot_calendar.specs.Slots.{grant_in}
+use Rattle.slot_calendar.specs.Asks.{BusAsk, with_ask}
 use Rattle.bus_model.specs.Channels.{BusValue, ConsoleValue, ChannelValue, AsBus, AsConsole, entry_of}
 
 abbrev pub is_retry_kind : PostKind → Bool
@@ -20,20 +22,25 @@ is_retry_kind kind = false
 abbrev pub is_retry : Post → Bool
 is_retry p = is_retry_kind p.kind
 
--- an ask gets the bus once it is free, at the cycle of its stamp at the soonest
-abbrev pub grant_of : BusValue → Ask → ℕ
-grant_of b ask = max (id_of ask).cycle b.free
+-- an ask as the calendar of its bus sees it: its stamp is the cycle of its id
+abbrev pub for_bus : Ask → BusAsk
+for_bus ask = record { id = id_of ask; stamp = (id_of ask).cycle }
 
--- an ask for a line of the bus takes it for some cycles, and the status map says what comes of the line's entry
+-- the calendar says when an ask gets the bus
+abbrev pub grant_of : BusValue → Ask → ℕ
+grant_of b ask = grant_in b.setting.occupancy b.free (id_of ask).cycle (id_of ask) b.slots
+
+-- an ask for a line of the bus has it for some cycles from its grant on, which its slot says, and the status map says what
+-- comes of the line's entry
 unfoldable pub granted : BusValue → Ask → ℕ → EntryView → BusValue × List Post
 granted b ask line entry =
     let grant = grant_of b ask in
     let s = serve b.setting.delays grant ask entry in (
       record b {
-        free = capped (grant + b.setting.occupancy);
         asks = raised b.asks;
         retries = capped (b.retries + count_by is_retry s.posts);
         entries = slice_set b.entries (line / b.setting.buses) s.entry;
+        slots = with_ask b.setting.occupancy b.free (for_bus ask) b.slots;
       },
       s.posts,
     )
@@ -47,19 +54,19 @@ abbrev pub on_line : BusValue → Ask → Option ℕ → BusValue × List Post
 on_line b ask None = (b, [])
 on_line b ask (Some line) = on_entry b ask line (entry_of b line)
 
--- the greatest id since the channel was closed, with that of an ask
+unfoldable pub bus_served : BusValue → Ask → BusValue × List Post
+bus_served b ask = on_line b ask (line_of ask)
+
+-- the greatest id since the console was closed, with that of an ask
 abbrev pub noted : Option Id → Ask → Option Id
 noted highest ask = Some (later_of highest (id_of ask))
-
--- whatever a bus is asked, the id counts
-unfoldable pub bus_served : BusValue → Ask → BusValue × List Post
-bus_served b ask = on_line (record b { highest = noted b.highest ask }) ask (line_of ask)
 
 -- the console appends the byte of a Put
 abbrev pub put_on : List ℕ → Ask → List ℕ
 put_on bytes (Put id byte) = bytes ++ byte ∷ []
 put_on bytes ask = bytes
 
+-- whatever the console is asked, the id counts
 abbrev pub console_served : ConsoleValue → Ask → ConsoleValue
 console_served c ask = record { bytes = put_on c.bytes ask; highest = noted c.highest ask }
 

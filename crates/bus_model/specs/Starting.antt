@@ -1,5 +1,5 @@
 -- A bus before the first cycle.
-use Rattle.std.specs.Prelude.{ℕ, ◌+◌, ◌*◌, ◌/◌, List, None, map}
+use Rattle.std.specs.Prelude.{ℕ, ◌+◌, ◌*◌, ◌/◌, List, [], map}
 use Rattle.std.specs.List.{range_with_len}
 use Rattle.slack_base.specs.declared.configs.RawConfig.{RawConfig}
 use Rattle.slack_base.specs.declared.images.Image.{Image}
@@ -33,5 +33,5 @@ first_bus config image number = record {
   asks = 0;
   retries = 0;
   entries = first_entries config image number;
-  highest = None;
+  slots = [];
 }

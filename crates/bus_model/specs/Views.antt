@@ -4,7 +4,9 @@ use Rattle.std.specs.Option.{option_map}
 use Rattle.slack_base.specs.declared.bounds.TheConstants.{TOP}
 use Rattle.slack_base.specs.Marks.{Marked}
 use Rattle.status_map.specs.declared.views.EntryView.{EntryView}
+use Rattle.slot_calendar.specs.declared.slots.Slot.{Slot}
 use Rattle.bus_model.specs.declared.buses.Bus.TheInside.{Inside as BusInside}
+use Rattle.bus_model.specs.declared.buses.BusMark.{BusMark}
 use Rattle.bus_model.specs.declared.consoles.Console.TheInside.{Inside as ConsoleInside}
 use Rattle.bus_model.specs.declared.consoles.ConsoleMark.{ConsoleMark}
 use Rattle.bus_model.specs.declared.counters.Counters.{Counters}
@@ -13,22 +15,23 @@ use Rattle.bus_model.specs.Channels.{BusValue, ConsoleValue, IsSoundBus}
 use Rattle.bus_model.specs.Journals.{restored}
 
 -- a bus with these parts
-abbrev pub bus_with : SettingValue → Counters → List EntryView → BusValue
-bus_with setting c entries = record {
+abbrev pub bus_with : SettingValue → Counters → List EntryView → List Slot → BusValue
+bus_with setting c entries slots = record {
   setting = setting;
   free = c.free;
   asks = c.asks;
   retries = c.retries;
   entries = entries;
-  highest = c.highest;
+  slots = slots;
 }
 
 abbrev pub bus_now : BusInside → BusValue
-bus_now b = bus_with (setting_value b.setting) b.counters b.lines.entries
+bus_now b = bus_with (setting_value b.setting) b.counters b.lines.entries b.calendar
 
--- the bus at its mark: it counted what was kept there, and its entries are those of now with the journal's put back
-abbrev pub bus_then : BusInside → Counters → BusValue
-bus_then b mark = bus_with (setting_value b.setting) mark (restored b.lines.entries b.lines.journal)
+-- the bus at its mark: it counted what was kept there, with the calendar that was kept, and its entries are those of now
+-- with the journal's put back
+abbrev pub bus_then : BusInside → BusMark → BusValue
+bus_then b mark = bus_with (setting_value b.setting) mark.counters (restored b.lines.entries b.lines.journal) mark.calendar
 
 abbrev pub bus_of : BusInside → Marked BusValue
 bus_of b = record { value = bus_now b; saved = option_map (bus_then b) b.mark }
@@ -38,7 +41,7 @@ bus_of b = record { value = bus_now b; saved = option_map (bus_then b) b.mark }
 pub record IsSoundInside (b : BusInside) : Type 0 where
   pub now : IsSoundBus (bus_now b)
   pub saved : IfSome b.mark (λ mark. IsSoundBus (bus_then b mark))
-  pub few : IfSome b.mark (λ mark. b.counters.asks < TOP → mark.asks + length b.lines.journal ≤ b.counters.asks)
+  pub few : IfSome b.mark (λ mark. b.counters.asks < TOP → mark.counters.asks + length b.lines.journal ≤ b.counters.asks)
   pub unmarked : IfNone b.mark (b.lines.journal ≡ [])
 
 -- the console at its mark: the bytes that it had by then are the first ones

@@ -6,19 +6,28 @@ use crate::lines::Lines;
 use crate::posts::{retries_in, send_all};
 use crate::settings::Setting;
 use crate::starting::first_entries;
-use slack_base::{Ask, Config, HighestId, Id, Image, OutOfMemory, PostList, capped, raised};
+use slack_base::{Ask, Config, Id, Image, OutOfMemory, PostList, capped, raised};
+use slot_calendar::Calendar;
 use status_map::{EntryView, PostBatch};
 use std::alloc::Global;
 use std::marker::Model;
 
-/// A bus of a machine, which may be marked. A mark keeps what the bus counted, and from then on the entry of each line
-/// is noted before it first changes.
+/// A bus of a machine, which may be marked. A mark keeps what the bus counted and its calendar, and from then on the
+/// entry of each line is noted before it first changes.
 #[derive(Debug, Drop)]
 pub(crate) struct Bus {
     setting: Setting,
     counters: Counters,
+    calendar: Calendar,
     lines: Lines,
-    mark: Option<Counters>,
+    mark: Option<BusMark>,
+}
+
+/// What a bus had counted at its mark, and its calendar there.
+#[derive(Debug, Drop)]
+pub(crate) struct BusMark {
+    counters: Counters,
+    calendar: Calendar,
 }
 
 impl Model for Bus {
@@ -35,15 +44,15 @@ impl Model for Bus {
 }
 
 impl Bus {
-    ghost use Rattle.slack_base.specs.HighestIds.{later_of};
     ghost use Rattle.slack_base.specs.Images.{Fits};
     ghost use Rattle.slack_base.specs.Messages.{line_of};
     ghost use Rattle.slack_base.specs.Numbers.{numbers_of};
     ghost use Rattle.bus_model.specs.Channels.{AsBus, entry_of, found_on, IsSoundBus};
     ghost use Rattle.bus_model.specs.Asks.{IsAskOf, IsLineOf};
+    ghost use Rattle.bus_model.specs.Closing.{bus_closed, clash};
     ghost use Rattle.bus_model.specs.Noting.{IsNotedSince};
     ghost use Rattle.bus_model.specs.Starting.{first_bus};
-    ghost use Rattle.bus_model.specs.Serving.{bus_served, on_line};
+    ghost use Rattle.bus_model.specs.Serving.{bus_served, for_bus, on_line};
 
     /// The bus of a number, before the first cycle.
     pub(crate) fn new(
@@ -63,6 +72,7 @@ impl Bus {
         Ok(Bus {
             setting: Setting::of(config, index),
             counters: Counters::new(),
+            calendar: Calendar::new(alloc),
             lines,
             mark: None,
         })
@@ -76,7 +86,6 @@ impl Bus {
         ensures saved { self.new.saved ≡ self.old.saved }
         ensures posts { OnOk result (out.new ≡ out.old ++ (bus_served self.old.value ask.now).1) }
     {
-        self.note_id(ask.id());
         match ask.line() {
             Some(line) => {
                 let mut posts = PostBatch::new();
@@ -87,16 +96,8 @@ impl Bus {
         }
     }
 
-    /// The id of an ask counts for the greatest one.
-    fn note_id(&mut self, id: Id)
-        ensures value { self.new.value ≡ record self.old.value { highest = Some (later_of self.old.value.highest id) } }
-        ensures saved { self.new.saved ≡ self.old.saved }
-    {
-        self.counters.highest.note(id);
-    }
-
-    /// Grants the bus to an ask for a line of it, and puts the posts into a batch with none. Where a marked bus gets no
-    /// memory for a note, it is as before.
+    /// Grants the bus to an ask for a line of it, and puts the posts into a batch with none. Where it gets no memory for
+    /// that, nothing but its calendar changes.
     fn grant(&mut self, ask: &Ask, line: u32, out: &mut PostBatch) -> Result<(), OutOfMemory>
         requires ask { IsAskOf self.old.value.setting ask.now }
         requires line { line_of ask.now ≡ Some line }
@@ -104,25 +105,33 @@ impl Bus {
         ensures bus { OnOk result (self.new.value ≡ (on_line self.old.value ask.now (Some line)).0) }
         ensures saved { self.new.saved ≡ self.old.saved }
         ensures posts { OnOk result (out.new ≡ (on_line self.old.value ask.now (Some line)).1) }
-        ensures refused { OnErr result (self.new ≡ self.old) }
+        ensures refused { OnErr result (record self.new.value { slots = self.old.value.slots } ≡ self.old.value) }
     {
         let setting = self.setting;
-        let grant = ask.id().cycle.max(self.counters.free);
+        let id = ask.id();
         let place = (line / setting.buses) as usize;
+        let grant = self
+            .calendar
+            .place(id, id.cycle, self.counters.free, setting.occupancy)?;
         self.lines.prepare(place, self.mark.is_some())?;
         self.lines.serve(place, ask, grant, &setting.delays, out);
-        self.counters.free = capped(grant + setting.occupancy);
         self.counters.asks = raised(self.counters.asks);
         self.counters.retries = capped(self.counters.retries + retries_in(out.posts()));
         Ok(())
     }
 
-    /// Marks the bus as it stands. An older mark is replaced.
-    pub(crate) fn mark(&mut self)
-        ensures { self.new ≡ record { value = self.old.value; saved = Some self.old.value } }
+    /// Marks the bus as it stands. An older mark is replaced. It takes no memory where the bus is closed.
+    pub(crate) fn mark(&mut self) -> Result<(), OutOfMemory>
+        ensures marked { OnOk result (self.new ≡ record { value = self.old.value; saved = Some self.old.value }) }
+        ensures refused { OnErr result (self.new ≡ self.old) }
     {
+        let calendar = self.calendar.copy()?;
         self.lines.forget();
-        self.mark = Some(self.counters);
+        self.mark = Some(BusMark {
+            counters: self.counters,
+            calendar,
+        });
+        Ok(())
     }
 
     /// The bus is again as it was at its mark, and isn't marked any more.
@@ -131,8 +140,9 @@ impl Bus {
         ensures unmarked { IfNone self.old.saved (self.new.value ≡ self.old.value) }
         ensures saved { self.new.saved ≡ None }
     {
-        if let Some(counters) = self.mark.take() {
+        if let Some(BusMark { counters, calendar }) = self.mark.take() {
             self.counters = counters;
+            self.calendar = calendar;
             self.lines.put_back();
         }
     }
@@ -153,18 +163,22 @@ impl Bus {
         self.lines.noted()
     }
 
-    /// The greatest id that the bus served since it was closed.
-    pub(crate) fn highest(&self) -> HighestId
-        ensures { result ≡ self.now.value.highest }
+    /// The id that an ask clashes with, if any.
+    pub(crate) fn clash(&self, ask: &Ask) -> Option<Id>
+        ensures { result ≡ clash (AsBus self.now.value) ask.now }
     {
-        self.counters.highest
+        let id = ask.id();
+        self.calendar
+            .clash(id, id.cycle, self.counters.free, self.setting.occupancy)
     }
 
-    /// Forgets the greatest id.
+    /// Empties the calendar: the bus is free once all its slots have ended.
     pub(crate) fn close(&mut self)
-        ensures { self.new ≡ record { value = record self.old.value { highest = None }; saved = self.old.saved } }
+        ensures { self.new ≡ record { value = bus_closed self.old.value; saved = self.old.saved } }
     {
-        self.counters.highest.reset();
+        self.counters.free = self
+            .calendar
+            .close(self.counters.free, self.setting.occupancy);
     }
 
     /// The entry of a line of the bus.
@@ -194,7 +208,7 @@ impl Bus {
         self.setting.number
     }
 
-    /// The cycle from which the bus is free.
+    /// The cycle from which the bus was free when it was closed last.
     pub(crate) fn free(&self) -> u64
         ensures { result ≡ self.now.value.free }
     {

@@ -4,7 +4,7 @@ ghost use Rattle.bus_model.specs.Asks.{channel_of};
 
 use crate::buses::Bus;
 use crate::consoles::Console;
-use slack_base::{Ask, Config, HighestId, Id, Image, OutOfMemory, PostList};
+use slack_base::{Ask, Config, Id, Image, OutOfMemory, PostList};
 use status_map::EntryView;
 use std::alloc::Global;
 use std::marker::Model;
@@ -49,7 +49,7 @@ pub fn channel_of(ask: &Ask, buses: u32) -> u32
 impl Channel {
     ghost use Rattle.slack_base.specs.Images.{Fits};
     ghost use Rattle.slack_base.specs.Numbers.{numbers_of};
-    ghost use Rattle.bus_model.specs.Channels.{AsBus, AsConsole, bus_setting, highest_of, entry_at, found_entry, number_of, free_of, asks_of, retries_of, count_of, bytes_of, IsSound};
+    ghost use Rattle.bus_model.specs.Channels.{AsBus, AsConsole, bus_setting, entry_at, found_entry, number_of, free_of, asks_of, retries_of, count_of, bytes_of, IsSound};
     ghost use Rattle.bus_model.specs.Asks.{MayServe, HasLine};
     ghost use Rattle.bus_model.specs.Closing.{clash, closed};
     ghost use Rattle.bus_model.specs.Noting.{IsNotedSince};
@@ -101,25 +101,21 @@ impl Channel {
         }
     }
 
-    /// The greatest id that the channel served since it was closed, where it is above the ask's. It takes no memory.
+    /// The id that an ask clashes with, if any. On a bus it is the greatest above the ask's own that has the bus before
+    /// the ask, granted behind all lower ids, would be done with it; on the console the greatest that was served, where
+    /// it is above the ask's. Only what was served since the channel was closed counts. It takes no memory.
     pub fn clash(&self, ask: &Ask) -> Option<Id>
         requires { MayServe self.now.value ask.now }
         ensures { result ≡ clash self.now.value ask.now }
     {
-        self.highest().above(ask.id())
-    }
-
-    /// The greatest id that the channel served since it was closed.
-    fn highest(&self) -> HighestId
-        ensures { result ≡ highest_of self.now.value }
-    {
         match &self.kind {
-            Kind::Bus(bus) => bus.highest(),
-            Kind::Console(console) => console.highest(),
+            Kind::Bus(bus) => bus.clash(ask),
+            Kind::Console(console) => console.clash(ask),
         }
     }
 
-    /// Forgets the greatest id, and changes nothing else. It takes no memory.
+    /// Closes the channel: a bus empties its calendar, and is free once all its slots have ended; the console forgets
+    /// the greatest id. Nothing else changes. It takes no memory.
     pub fn close(&mut self)
         ensures channel { self.new.value ≡ closed self.old.value }
         ensures saved { self.new.saved ≡ self.old.saved }
@@ -138,9 +134,11 @@ impl Channel {
     {
         match &mut self.kind {
             Kind::Bus(bus) => bus.mark(),
-            Kind::Console(console) => console.mark(),
+            Kind::Console(console) => {
+                console.mark();
+                Ok(())
+            }
         }
-        Ok(())
     }
 
     /// The channel is again as it was at its mark, and isn't marked any more. It takes no memory.

@@ -1,7 +1,7 @@
 //! The console: the bytes that were put on it.
 ghost use Rattle.std.specs.Prelude.{◌≡◌, [], None, Some, IfNone, IfSome, OnOk};
 
-use slack_base::{Ask, HighestId, OutOfMemory};
+use slack_base::{Ask, HighestId, Id, OutOfMemory};
 use std::alloc::Global;
 use std::marker::Model;
 
@@ -35,6 +35,8 @@ impl Model for Console {
 }
 
 impl Console {
+    ghost use Rattle.bus_model.specs.Channels.{AsConsole};
+    ghost use Rattle.bus_model.specs.Closing.{clash};
     ghost use Rattle.bus_model.specs.Serving.{console_served};
 
     /// The console with no bytes. It takes no memory.
@@ -96,11 +98,11 @@ impl Console {
         self.bytes.as_slice()
     }
 
-    /// The greatest id that the console served since it was closed.
-    pub(crate) fn highest(&self) -> HighestId
-        ensures { result ≡ self.now.value.highest }
+    /// The greatest id since the console was closed, where it is above the ask's.
+    pub(crate) fn clash(&self, ask: &Ask) -> Option<Id>
+        ensures { result ≡ clash (AsConsole self.now.value) ask.now }
     {
-        self.highest
+        self.highest.above(ask.id())
     }
 
     /// Forgets the greatest id.

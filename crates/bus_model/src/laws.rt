@@ -1,5 +1,5 @@
 //! What is true of any channel, whatever it is asked.
-ghost use Rattle.bus_model.specs.ClosingLaws.{AllClose, AllReopen, AllNoted, AllInTurn, AllLastFree};
+ghost use Rattle.bus_model.specs.ClosingLaws.{AllClose, AllReopen, AllLast, AllSwap};
 ghost use Rattle.bus_model.specs.Laws.{AllLawful, AllMayServe};
 
 /// The law of channels. A channel that is asked stays sound, keeps its setting, and is free no sooner than before. Each
@@ -19,22 +19,19 @@ pub fn law_of_closing()
     ensures { AllClose }
 {}
 
-/// A channel makes of any ask what the closed one makes of it: the same posts, and all but the greatest id the same.
+/// An ask with an id above all that the channel keeps since it was closed clashes with nothing, and the channel makes of
+/// it what the closed one makes of it: the same posts, and once it is closed, the same channel.
 pub fn law_of_reopening()
     ensures { AllReopen }
 {}
 
-/// Each ask that is served counts for the greatest id, whatever it is.
-pub fn law_of_the_greatest_id()
-    ensures { AllNoted }
-{}
-
-/// An ask doesn't clash exactly where no ask that was served since the channel was closed has an id above its own.
-pub fn law_of_clashes()
-    ensures { AllInTurn }
-{}
-
-/// An ask doesn't clash where its id is above those of all that were served since the channel was closed.
+/// After asks on a closed channel, one with an id above all of theirs is above all that the channel keeps.
 pub fn law_of_the_last_ask()
-    ensures { AllLastFree }
+    ensures { AllLast }
+{}
+
+/// An ask that comes behind one of a greater id and another line, and doesn't clash, may as well come before it: the
+/// channel is the same in either order, and so are the posts of each.
+pub fn law_of_neighbours()
+    ensures { AllSwap }
 {}

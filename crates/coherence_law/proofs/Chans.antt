@@ -11,7 +11,7 @@ use Rattle.status_map.specs.declared.views.EntryView.{EntryView}
 use Rattle.status_map.specs.Table.{serve}
 use Rattle.bus_model.specs.Asks.{channel_of, channel_of_line}
 use Rattle.bus_model.specs.Channels.{BusValue, ConsoleValue, ChannelValue, AsBus, AsConsole, found_entry}
-use Rattle.bus_model.specs.Closing.{closed}
+use Rattle.bus_model.specs.Closing.{bus_closed, closed}
 use Rattle.bus_model.specs.Serving.{bus_served, console_served, served}
 use Rattle.bus_model.specs.Settings.{SettingValue, delays_of, setting_of}
 use Rattle.target_law.specs.Cycles.{changed_at, seen_at}
@@ -190,7 +190,7 @@ asked_console config chans ask is some h =
 module _ (config : RawConfig) (chans : List ChannelValue) where
   pub entry_closed : (l : ℕ) (e : EntryView) → HasEntry config chans l e → HasEntry config (map closed chans) l e
   entry_closed l e h = record {
-    bus = record h.bus { highest = None };
+    bus = bus_closed h.bus;
     at = get_mapped closed (l % config.buses) chans (AsBus h.bus) h.at;
     same = h.same;
     its = h.its;

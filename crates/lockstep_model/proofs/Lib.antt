@@ -1,1 +1,2 @@
+pub mod Commuting
 mod FirstState

@@ -13,7 +13,6 @@ use Rattle.slack_base.specs.declared.stamps.Id.{Id}
 use Rattle.slack_base.specs.Inboxes.{CoreValue}
 use Rattle.slack_base.specs.Messages.{id_of, line_of}
 use Rattle.slack_base.specs.Numbers.{lines_of}
-use Rattle.slack_base.specs.Stamps.{is_above}
 use Rattle.bus_model.specs.Asks.{IsProperAsk as IsBusAsk, IsLine, channel_of_line, channel_of}
 use Rattle.bus_model.specs.Channels.{ChannelValue, AsBus, AsConsole}
 use Rattle.bus_model.specs.Closing.{clash, closed}
@@ -22,7 +21,8 @@ use Rattle.bus_model.specs.Laws.{IsPostOf as IsBusPost}
 use Rattle.bus_model.specs.Serving.{served, served_all as bus_served_all}
 use Rattle.bus_model.specs.Settings.{delays_of, setting_of}
 use Rattle.bus_model.proofs.Lawful.{channels-lawful}
-use Rattle.bus_model.proofs.ClosingLaws.{closes as bus_closes, reopens as bus_reopens, in_turn, last_free}
+use Rattle.bus_model.specs.ClosingLaws.{IsLast}
+use Rattle.bus_model.proofs.ClosingLaws.{closes as bus_closes, reopens as bus_reopens, stays_last}
 use Rattle.timed_core.specs.Code.{CodeValue}
 use Rattle.timed_core.specs.Cores.{HartValue}
 use Rattle.timed_core.specs.Laws.{IsTick as IsCoreTick, IsLineBelow, AreAsksFrom}
@@ -30,8 +30,10 @@ use Rattle.timed_core.proofs.Lawful.{all_ticks}
 use Rattle.target_law.specs.Cycles.{tick_of}
 use Rattle.target_law.specs.Laws.{Laws, AreIds, IsTick, IsServing, IsPostOf, IsFreeAfter, IsNext, IsCommuting, IsClosing}
 use Rattle.target_law.specs.Proper.{IsProperAsk, IsPostTo, IsCoreOf, IsChanOf}
-use Rattle.target_law.specs.Served.{Perm, none, more, inserted, served_all}
+use Rattle.target_law.specs.Served.{join, inserted, served_all}
+use Rattle.violation_watch.proofs.Perms.{perm_of}
 use Rattle.lockstep_model.specs.Rules.{rules_of, owns_of, is_line, number_in}
+use Rattle.lockstep_model.proofs.Commuting.{inserts, closed_all, apart_above}
 
 -- the code and the configuration of one machine
 pub record IsMachine (config : RawConfig) (code : CodeValue) : Type 0 where
@@ -85,15 +87,6 @@ test_of_line config (Some line) h = lt_is line (lines_of config) h
 channel_below : (buses : ℕ) (line : Option ℕ) → 1 ≤ buses → channel_of_line buses line < buses + 1
 channel_below buses None some = omega arith
 channel_below buses (Some line) some = let low = mod-lt line some in omega arith
-
--- an ask that is above none of these has its place behind them
-inserted-last : (x : Ask) (asks : List Ask) → Each (λ y. is_above (id_of y) (id_of x) ≡ false) asks → inserted x asks ≡ asks ++ x ∷ []
-inserted-last x [] low = refl
-inserted-last x (y ∷ asks) low = ap (λ b. cond b (x ∷ y ∷ asks) (y ∷ inserted x asks)) low.0 ∙ ap (λ xs. y ∷ xs) (inserted-last x asks low.1)
-
-same_list : {X : Type 0} (xs : List X) → Perm X xs xs
-same_list [] = none
-same_list (x ∷ xs) = more x (same_list xs)
 
 module _ (config : RawConfig) (code : CodeValue) (machine : IsMachine config code) where
   bus_ask : (ask : Ask) → IsProperAsk (rules_of config code) ask → IsBusAsk config.cores (lines_of config) ask
@@ -185,23 +178,22 @@ module _ (config : RawConfig) (code : CodeValue) (machine : IsMachine config cod
 
   commutes : (chan : ChannelValue) (asks : List Ask) (x : Ask) → IsFreeAfter (rules_of config code) (owns_of config) chan asks x → IsCommuting (rules_of config code) chan asks x
   commutes chan asks x is =
-      let rules = rules_of config code in
+      let place = channel_of config.buses x in
       let free : clash (bus_served_all chan asks).0 x ≡ None = ap (λ (s : ChannelValue × List Post). clash s.0 x) (sym (same_all chan asks)) ∙ is.free in
-      let last = inserted-last x asks ((in_turn chan asks x is.since.closed).0 free) in
+      let like = inserts chan asks x is.since.rising (closed_all chan asks is.since.closed)
+          (apart_above config place chan x asks (set_at place chan is.since.own) is.since.here is.lines) free in
+      let last = same_all chan (asks ++ x ∷ []) in
+      let placed = same_all chan (inserted x asks) in
       record {
-        value = ap (λ xs. (served_all rules chan xs).0) (sym last);
-        posts = subst (λ xs. Perm Post (served_all rules chan (asks ++ x ∷ [])).1 (served_all rules chan xs).1) (sym last) (same_list (served_all rules chan (asks ++ x ∷ [])).1);
+        value = ap (λ (s : ChannelValue × List Post). s.0) last ∙ like.value ∙ sym (ap (λ (s : ChannelValue × List Post). s.0) placed);
+        posts = join (perm_of _ _ (ap (λ (s : ChannelValue × List Post). s.1) last)) (join like.posts (perm_of _ _ (sym (ap (λ (s : ChannelValue × List Post). s.1) placed))));
       }
 
   reopens : (chan : ChannelValue) (asks : List Ask) (x : Ask) → IsNext (rules_of config code) (owns_of config) chan asks x → IsClosing (rules_of config code) (served_all (rules_of config code) chan asks).0 x
   reopens chan asks x is =
-      let here = (served_all (rules_of config code) chan asks).0 in
-      let law = bus_reopens here x in
-      record {
-        free = ap (λ (s : ChannelValue × List Post). clash s.0 x) (same_all chan asks) ∙ last_free chan asks x is.since.closed is.above;
-        posts = law.posts;
-        value = law.value;
-      }
+      let last = subst (λ (s : ChannelValue × List Post). IsLast x s.0) (sym (same_all chan asks)) (stays_last chan asks x is.since.closed is.above) in
+      let law = bus_reopens (served_all (rules_of config code) chan asks).0 x last in
+      record { free = law.free; posts = law.posts; value = law.value }
 
   pub lawful : Laws (rules_of config code) (owns_of config)
   lawful = record {

@@ -58,12 +58,14 @@ fn numbers_stop(rt: HostRuntime) -> Result<(), Fail> {
     let mut out = PostList::new(rt.alloc());
     // Granted at TOP - 3, and the bus is free from TOP - 1 on; the last ask that is counted.
     assert!(rt; asks_to_own(&mut bus, 0, &mut out)?);
+    bus.close();
     assert_eq!(rt;
         (bus.free(), bus.asks(), bus.retries()),
         (TOP - 1, TOP, TOP)
     );
     // The line is on its way to core 0: core 1 is sent away, which isn't counted any more.
     assert!(rt; asks_to_own(&mut bus, 1, &mut out)?);
+    bus.close();
     assert_eq!(rt; (bus.free(), bus.asks(), bus.retries()), (TOP, TOP, TOP));
     assert_eq!(rt; out.len(), 2);
     Ok(())

@@ -13,7 +13,8 @@ mod marks;
 
 use super::*;
 use exchanges::{
-    Exchange, FIRST, LAST, LAST_CYCLES, NEIGHBOURS, PASSING, SEVEN_ALONE, SHARING, STORES, ZEROS,
+    AHEAD, BEHIND, Exchange, FIRST, LAST, LAST_CYCLES, NEIGHBOURS, PASSING, SEVEN_ALONE, SHARING,
+    STORES, ZEROS,
 };
 use slack_base::{ByteList, Post, PostKind, RawConfig, Segment, SegmentList, TOP, Words};
 use status_map::EntryKind;
@@ -29,6 +30,18 @@ const TWO_CORES: RawConfig = RawConfig {
 /// The same with four buses.
 const FOUR_BUSES: RawConfig = RawConfig {
     buses: 4,
+    ..TWO_CORES
+};
+
+/// Two cores whose asks take the bus for three cycles.
+const SHORT_SLOTS: RawConfig = RawConfig {
+    occupancy: 3,
+    ..TWO_CORES
+};
+
+/// And for four.
+const LONG_SLOTS: RawConfig = RawConfig {
+    occupancy: 4,
     ..TWO_CORES
 };
 
@@ -168,6 +181,15 @@ fn all_send(
     Ok(true)
 }
 
+/// How many asks and retries a bus counted, and from when on it is free once it is closed.
+fn closed_counts(bus: &mut Channel) -> (u64, u64, u64)
+    ensures setting { bus_setting bus.new.value ≡ bus_setting bus.old.value }
+    ensures saved { bus.new.saved ≡ bus.old.saved }
+{
+    bus.close();
+    (bus.asks(), bus.retries(), bus.free())
+}
+
 /// An image of two segments, one at line 256, and one that is the last line of memory.
 fn image(alloc: Global) -> Result<Image, OutOfMemory>
     ensures { IfOk result (λ image. Fits 0 8192 image) }
@@ -229,7 +251,7 @@ fn two_cores_store_to_one_line(rt: HostRuntime) -> Result<(), Fail> {
     let mut bus = bus_of(rt.alloc(), &config)?;
     let mut out = PostList::new(rt.alloc());
     assert!(rt; all_send(&mut bus, 0, &config, &STORES, &mut out)?);
-    assert_eq!(rt; (bus.asks(), bus.retries(), bus.free()), (8, 5, 17));
+    assert_eq!(rt; closed_counts(&mut bus), (8, 5, 17));
     Ok(())
 }
 
@@ -239,7 +261,7 @@ fn a_write_back_passes_a_snoop(rt: HostRuntime) -> Result<(), Fail> {
     let mut bus = bus_of(rt.alloc(), &config)?;
     let mut out = PostList::new(rt.alloc());
     assert!(rt; all_send(&mut bus, 0, &config, &PASSING, &mut out)?);
-    assert_eq!(rt; (bus.asks(), bus.retries(), bus.free()), (5, 0, 27));
+    assert_eq!(rt; closed_counts(&mut bus), (5, 0, 27));
     Ok(())
 }
 
@@ -278,7 +300,7 @@ fn a_shared_line_is_taken(rt: HostRuntime) -> Result<(), Fail> {
         ..lost
     };
     assert_eq!(rt; out.as_slice(), [lost, got].as_slice());
-    assert_eq!(rt; (bus.asks(), bus.retries(), bus.free()), (5, 0, 32));
+    assert_eq!(rt; closed_counts(&mut bus), (5, 0, 32));
     Ok(())
 }
 
@@ -325,7 +347,7 @@ fn lines_of_one_bus(rt: HostRuntime) -> Result<(), Fail> {
     assert_eq!(rt; bus.entry(257), owned(0, 12));
     assert_eq!(rt; bus.entry(509), owned(1, 14));
     assert_eq!(rt; bus.entry(253), idle(ZEROS));
-    assert_eq!(rt; (bus.asks(), bus.retries(), bus.free()), (2, 0, 5));
+    assert_eq!(rt; closed_counts(&mut bus), (2, 0, 5));
     Ok(())
 }
 
@@ -338,14 +360,15 @@ fn owned(core: u32, settled: u64) -> EntryView {
     }
 }
 
-/// The cycle from which a bus is free stops at 2^62, and asks are granted there from then on.
+/// The cycle from which a bus is free stops at 2^62, and asks are granted there from then on; one that comes late still
+/// has its turn long before.
 #[test]
 fn the_end_of_time(rt: HostRuntime) -> Result<(), Fail> {
     let config = Config::checked(TWO_CORES).expect(&rt, "two cores");
     let mut bus = bus_of(rt.alloc(), &config)?;
     let mut out = PostList::new(rt.alloc());
     assert!(rt; all_send(&mut bus, 0, &config, &LAST_CYCLES, &mut out)?);
-    assert_eq!(rt; (bus.asks(), bus.retries(), bus.free()), (3, 1, TOP));
+    assert_eq!(rt; closed_counts(&mut bus), (3, 1, TOP));
     Ok(())
 }
 
@@ -407,7 +430,8 @@ fn read(cycle: u64) -> Ask {
     Ask::Read { id, line: 256 }
 }
 
-/// The same on a bus, which is free and counts as before once it is closed.
+/// On a bus an ask clashes where it isn't done before one of a greater id has the bus. Once the bus is closed it counts
+/// as before, and is free after all its asks.
 #[test]
 fn a_bus_is_closed(rt: HostRuntime) -> Result<(), Fail> {
     let config = Config::checked(TWO_CORES).expect(&rt, "two cores");
@@ -420,6 +444,31 @@ fn a_bus_is_closed(rt: HostRuntime) -> Result<(), Fail> {
     assert_eq!(rt; clash_on(&bus, &config, &read(6)), None);
     bus.close();
     assert_eq!(rt; clash_on(&bus, &config, &read(4)), None);
-    assert_eq!(rt; (bus.asks(), bus.retries(), bus.free()), (2, 1, 9));
+    assert_eq!(rt; (bus.asks(), bus.retries(), bus.free()), (2, 1, 7));
+    Ok(())
+}
+
+/// An ask that comes late passes where it is done before the bus has the next; its slot is then as if it had come in
+/// time.
+#[test]
+fn a_late_ask_passes(rt: HostRuntime) -> Result<(), Fail> {
+    let config = Config::checked(SHORT_SLOTS).expect(&rt, "three cycles an ask");
+    let image = image(rt.alloc())?;
+    let mut bus = Channel::bus(rt.alloc(), 0, &config, &image)?;
+    let mut out = PostList::new(rt.alloc());
+    assert!(rt; all_send(&mut bus, 0, &config, &AHEAD, &mut out)?);
+    assert_eq!(rt; closed_counts(&mut bus), (2, 0, 8));
+    Ok(())
+}
+
+/// One that isn't done by then comes behind all slots.
+#[test]
+fn a_late_ask_clashes(rt: HostRuntime) -> Result<(), Fail> {
+    let config = Config::checked(LONG_SLOTS).expect(&rt, "four cycles an ask");
+    let image = image(rt.alloc())?;
+    let mut bus = Channel::bus(rt.alloc(), 0, &config, &image)?;
+    let mut out = PostList::new(rt.alloc());
+    assert!(rt; all_send(&mut bus, 0, &config, &BEHIND, &mut out)?);
+    assert_eq!(rt; closed_counts(&mut bus), (2, 0, 13));
     Ok(())
 }

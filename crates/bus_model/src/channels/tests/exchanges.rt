@@ -118,7 +118,7 @@ pub(super) const NEIGHBOURS: [Exchange; 2] = [
 #[rattlefmt::skip]
 pub(super) const LAST_CYCLES: [Exchange; 3] = [
     ((0, TOP - 1, 0), 257, Read, Some((0, TOP + 9, ZEROS_ALONE))),
-    ((1, 5, 0), 257, ReadOwn, Some((1, TOP + 2, Retry))),
+    ((1, 5, 0), 257, ReadOwn, Some((1, 7, Retry))),
     ((1, TOP, 0), 258, Read, Some((1, TOP + 10, ZEROS_ALONE))),
 ];
 
@@ -131,4 +131,18 @@ pub(super) const GIVEN_BACK: [Exchange; 3] = [
     ((0, 13, 0), 257, Read, Some((0, 23, ZEROS_ALONE))),
     ((0, 14, 0), 256, WriteBack(7), None),
     ((1, 14, 0), 257, Read, Some((1, 19, Retry))),
+];
+
+/// The bus is granted in cycle 5, and the ask of cycle 2 comes late: it takes the bus for three cycles.
+#[rattlefmt::skip]
+pub(super) const AHEAD: [Exchange; 2] = [
+    ((1, 5, 0), 257, Read, Some((1, 15, ZEROS_ALONE))),
+    ((0, 2, 0), 256, Read, Some((0, 12, FIRST_ALONE))),
+];
+
+/// The same for four cycles: the late ask is granted once the other is done, in cycle 9.
+#[rattlefmt::skip]
+pub(super) const BEHIND: [Exchange; 2] = [
+    ((1, 5, 0), 257, Read, Some((1, 15, ZEROS_ALONE))),
+    ((0, 2, 0), 256, Read, Some((0, 19, FIRST_ALONE))),
 ];

@@ -19,6 +19,7 @@ fn marked_bus(alloc: Global, config: &Config) -> Result<Channel, OutOfMemory>
     let mut bus = bus_of(alloc, config)?;
     let mut out = PostList::new(alloc);
     all_send(&mut bus, 0, config, &TAKEN, &mut out)?;
+    bus.close();
     bus.mark()?;
     Ok(bus)
 }
@@ -45,7 +46,7 @@ fn a_bus_comes_back(rt: HostRuntime) -> Result<(), Fail> {
     let mut out = PostList::new(rt.alloc());
     assert_eq!(rt; bus.noted(), 0);
     assert!(rt; all_send(&mut bus, 0, &config, &GIVEN_BACK, &mut out)?);
-    assert_eq!(rt; (bus.asks(), bus.retries(), bus.free()), (4, 1, 19));
+    assert_eq!(rt; closed_counts(&mut bus), (4, 1, 19));
     // Three asks for two lines.
     assert_eq!(rt; bus.noted(), 2);
     bus.undo();
@@ -54,6 +55,22 @@ fn a_bus_comes_back(rt: HostRuntime) -> Result<(), Fail> {
     assert_eq!(rt; (bus.asks(), bus.retries(), bus.free()), (1, 0, 3));
     assert_eq!(rt; (bus.number(), bus.lines()), (Some(0), 512));
     assert_eq!(rt; clash_on(&bus, &config, &read(2)), None);
+    Ok(())
+}
+
+/// A bus that is marked before it is closed has its calendar again.
+#[test]
+fn a_calendar_comes_back(rt: HostRuntime) -> Result<(), Fail> {
+    let config = Config::checked(TWO_CORES).expect(&rt, "two cores");
+    let mut bus = bus_of(rt.alloc(), &config)?;
+    let mut out = PostList::new(rt.alloc());
+    assert!(rt; serve_on(&mut bus, 0, &config, &read(5), &mut out)?);
+    bus.mark()?;
+    assert!(rt; serve_on(&mut bus, 0, &config, &read(8), &mut out)?);
+    bus.close();
+    bus.undo();
+    assert_eq!(rt; clash_on(&bus, &config, &read(4)), Some(read(5).id()));
+    assert_eq!(rt; closed_counts(&mut bus), (1, 0, 7));
     Ok(())
 }
 
@@ -67,7 +84,7 @@ fn a_bus_goes_on(rt: HostRuntime) -> Result<(), Fail> {
     bus.keep();
     assert_eq!(rt; bus.find_entry(256), Some(LINE_BACK));
     assert_eq!(rt; bus.find_entry(257), Some(owned(0, 24)));
-    assert_eq!(rt; (bus.asks(), bus.retries(), bus.free()), (4, 1, 19));
+    assert_eq!(rt; closed_counts(&mut bus), (4, 1, 19));
     bus.mark()?;
     assert_eq!(rt; bus.noted(), 0);
     Ok(())
@@ -80,6 +97,7 @@ fn a_later_mark(rt: HostRuntime) -> Result<(), Fail> {
     let mut bus = marked_bus(rt.alloc(), &config)?;
     let mut out = PostList::new(rt.alloc());
     assert!(rt; all_send(&mut bus, 0, &config, &GIVEN_BACK, &mut out)?);
+    bus.close();
     bus.mark()?;
     assert_eq!(rt; bus.noted(), 0);
     assert!(rt; serve_on(&mut bus, 0, &config, &read(30), &mut out)?);
@@ -108,15 +126,17 @@ fn a_console_comes_back(rt: HostRuntime) -> Result<(), Fail> {
     Ok(())
 }
 
-/// Whether two buses of a memory of 512 lines have the same entries and counts and have served the same greatest id.
-fn are_same(bus: &Channel, other: &Channel) -> bool {
+/// Whether two buses of a memory of 512 lines have the same entries and counts, and are free from the same cycle on once
+/// they are closed.
+fn are_same(bus: &mut Channel, other: &mut Channel) -> bool
+    ensures setting { bus_setting bus.new.value ≡ bus_setting bus.old.value }
+{
     for line in 0..512 {
         if bus.find_entry(line) != other.find_entry(line) {
             return false;
         }
     }
-    bus.highest() == other.highest()
-        && (bus.free(), bus.asks(), bus.retries()) == (other.free(), other.asks(), other.retries())
+    bus.free() == other.free() && closed_counts(bus) == closed_counts(other)
 }
 
 /// Whether a bus that is marked after so many asks, and taken back after the rest of them, is what these alone make of
@@ -141,7 +161,7 @@ fn comes_back(
     let first = all_send(&mut bus, index, config, rest, &mut out)?;
     bus.undo();
     let built = all_send(&mut rebuilt, index, config, some, &mut out)?;
-    let same = are_same(&bus, &rebuilt);
+    let same = are_same(&mut bus, &mut rebuilt);
     let again = all_send(&mut bus, index, config, rest, &mut out)?;
     Ok(begun && first && built && same && again)
 }
