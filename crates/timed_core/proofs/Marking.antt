@@ -31,7 +31,7 @@ module _ (line : ℕ) (before after : SetsValue) where
   pub then-touched : (t : ℕ) (marked : Bool) → IsReadyFor line marked before after → cache_then marked (touched after line t) ≡ cache_then marked before
   then-touched t false ready = refl
   then-touched t true ready =
-      let many : length after.touches ≡ length before.cache.sets = ap (λ (ts : List ℕ). length ts) ready.touches ∙ ready.each in
+      let many : length after.touches ≡ length before.cache.sets = ap (λ (ts : List ℕ). length ts) ready.touches ∙ ready.each refl in
       let noted : is_noted (line % length after.touches) after.journal ≡ true = ap (λ n. is_noted (line % n) after.journal) many ∙ ready.noted refl in
       let cache = record after.cache { sets = restored after.cache.sets after.journal } in
       ap (λ (ts : List ℕ). Some (record { cache = cache; touches = ts }))

@@ -37,7 +37,10 @@ module _ {X : Type 0} (part : SetNote → X) (back : List X → List SetNote →
       let changed = back (slice_set xs number x) journal in
       let as_it_was = back xs journal in
       let whole : slice_set (slice_set changed note.set (part note)) number y ≡ slice_set (slice_set as_it_was note.set (part note)) number y = elim (cases_eq note.set number) [
-        | inl same ↦ rw same (set-set changed number (part note) y ∙ under xs journal number x y ∙ sym (set-set as_it_was number (part note) y))
+        | inl same ↦
+            ap (λ n. slice_set (slice_set changed n (part note)) number y) same
+            ∙ set-set changed number (part note) y ∙ under xs journal number x y ∙ sym (set-set as_it_was number (part note) y)
+            ∙ sym (ap (λ n. slice_set (slice_set as_it_was n (part note)) number y) same)
         | inr other ↦
             set_comm changed note.set number (part note) y other
             ∙ ap (λ (es : List X). slice_set es note.set (part note)) (under xs journal number x y)
@@ -52,7 +55,10 @@ module _ {X : Type 0} (part : SetNote → X) (back : List X → List SetNote →
   change xs [] number x noted = absurd (cc)
   change xs (note ∷ journal) number x noted =
       let whole : slice_set (back (slice_set xs number x) journal) note.set (part note) ≡ slice_set (back xs journal) note.set (part note) = elim (cases_eq note.set number) [
-        | inl same ↦ rw same (under xs journal number x (part note))
+        | inl same ↦
+            ap (λ n. slice_set (back (slice_set xs number x) journal) n (part note)) same
+            ∙ under xs journal number x (part note)
+            ∙ sym (ap (λ n. slice_set (back xs journal) n (part note)) same)
         | inr other ↦
             ap (λ (es : List X). slice_set es note.set (part note))
             (change xs journal number x (noted_later note number (is_noted number journal) other noted))

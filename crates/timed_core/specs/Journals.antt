@@ -50,12 +50,13 @@ pub record IsFlagged (flags : List Bool) (sets ways : ℕ) (journal : List SetNo
   pub proper : All (IsNoteOf sets ways) journal
   pub few : length journal ≤ count_up flags
 
--- the set of a line and its touch may change: the cache and the touches are as before, one touch for each set, the journal
--- leads back to where it led, and the set stands in it where there is a mark; where there is none, nothing was noted
+-- the set of a line and its touch may change: the cache and the touches are as before, and the journal leads back to where
+-- it led; where there is a mark, there is a touch of each set, and the set stands in the journal; where there is none,
+-- nothing was noted
 pub record IsReadyFor (line : ℕ) (marked : Bool) (before after : SetsValue) : Type 0 where
   pub cache : after.cache ≡ before.cache
   pub touches : after.touches ≡ before.touches
-  pub each : length before.touches ≡ length before.cache.sets
+  pub each : marked ≡ true → length before.touches ≡ length before.cache.sets
   pub kept : restored after.cache.sets after.journal ≡ restored before.cache.sets before.journal
   pub kept_touches : restored_touches after.touches after.journal ≡ restored_touches before.touches before.journal
   pub noted : marked ≡ true → is_noted (set_number before.cache line) after.journal ≡ true

@@ -128,13 +128,13 @@ impl NotedCache {
     /// Touches the set of a line at a cycle, whether the line is held or not: from the next cycle on it is left alone, as far
     /// as is known. It takes no memory.
     #[inline(always)]
-    pub fn touch(&mut self, line: u32, cycle: u64)
+    pub fn touch(&mut self, touched: u32, cycle: u64)
         requires { cycle ≤ TOP }
-        ensures value { self.new.value ≡ record self.old.value { touches = touch_line cycle self.old.value.touches line } }
+        ensures value { self.new.value ≡ record self.old.value { touches = touch_line cycle self.old.value.touches touched } }
         ensures saved { self.new.saved ≡ self.old.saved }
     {
-        self.sets.prepare(line, self.marked);
-        self.sets.touch(line, cycle);
+        self.sets.prepare(touched, self.marked);
+        self.sets.touch(touched, cycle);
     }
 
     /// The cycle from which on the set of a line was touched no more. It takes no memory.

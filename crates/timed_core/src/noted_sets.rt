@@ -85,7 +85,8 @@ impl NotedSets {
     /// Whether the flag of a line's set is up.
     #[inline(always)]
     fn has_noted(&self, line: u32) -> bool
-        ensures { result ≡ true → is_noted (set_number self.now.cache line) self.now.journal ≡ true }
+        ensures each { length self.now.touches ≡ length self.now.cache.sets }
+        ensures noted { result ≡ true → is_noted (set_number self.now.cache line) self.now.journal ≡ true }
     {
         let set = self.cache.set_of(line);
         self.flags[set as usize]

@@ -9,5 +9,5 @@ pub returns-clause-saved : goal.returns-clause-saved
 returns-clause-saved c =
     let inside = c.self.inside in
     ap (λ (s : SetsValue). cache_then inside.marked s) c.touch.ensures
-    ∙ then-touched c.args.line inside.sets c.prepare.new.self c.args.cycle inside.marked c.prepare.ensures
+    ∙ then-touched c.args.touched inside.sets c.prepare.new.self c.args.cycle inside.marked c.prepare.ensures
     ∙ ap (λ (v : Marked TouchedCache). v.saved) c.self.view_is

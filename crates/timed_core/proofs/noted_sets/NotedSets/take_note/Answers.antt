@@ -21,7 +21,7 @@ proper c =
 pub invariant_of-self-2 : goal.invariant_of-self-2
 invariant_of-self-2 c =
     let inside = c.self.inside in
-    flagged-pop inside.flags.items (length inside.cache.sets) inside.cache.ways c.pop.new.self.items c.in_ok-note.note (flagged c)
+    (flagged-pop inside.flags.items (length inside.cache.sets) inside.cache.ways c.pop.new.self.items c.in_ok-note.note (flagged c), c.self.invariant.1)
 
 pub returns-clause-taken : goal.returns-clause-taken
 returns-clause-taken c =
