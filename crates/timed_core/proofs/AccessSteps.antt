@@ -12,10 +12,11 @@ use Rattle.timed_core.specs.Accesses.{is_aligned, hits, asked_for, word_in_line,
 use Rattle.timed_core.specs.Code.{CodeValue, is_in_memory}
 use Rattle.timed_core.specs.Cores.{HartValue, line_number}
 use Rattle.timed_core.specs.Laws.{IsSoundHart}
+use Rattle.timed_core.specs.Touches.{touched_at}
 use Rattle.timed_core.specs.declared.accesses.Access.{Access}
 use Rattle.timed_core.specs.declared.accesses.Access.TheVariants.{Load, Store, LoadReserved, StoreConditional, Amo}
 use Rattle.timed_core.proofs.OwnCaches.{read_holds, write_holds}
-use Rattle.timed_core.proofs.Steps.{IsAskBelow, IsStep, gives_step, goes_on_step, trapped_step}
+use Rattle.timed_core.proofs.Steps.{IsAskBelow, IsStep, touched_sound, gives_step, goes_on_step, trapped_step}
 
 line_below : (code : CodeValue) (lines address : ℕ) → length code.bytes ≡ 16 * lines → is_in_memory code address ≡ true → line_number code.base address < lines
 line_below code lines address whole inside =
@@ -26,13 +27,13 @@ line_below code lines address whole inside =
 
 module _ (config : RawConfig) (base address : ℕ) (id : Id) where
   read_sound : (core : HartValue) → IsSoundHart config core → IsSoundHart config (read_at base address core)
-  read_sound core s = record { number = s.number; zero = s.zero; cache = read_holds config core.cache (line_number base address) s.cache }
+  read_sound core s = record { number = s.number; zero = s.zero; cache = read_holds config core.cache (line_number base address) s.cache; touches = s.touches }
 
   write_sound : (value : ℕ) (core : HartValue) → IsSoundHart config core → IsSoundHart config (write_at base address value core)
-  write_sound value core s = record { number = s.number; zero = s.zero; cache = write_holds config core.cache (line_number base address) (word_in_line address) value s.cache }
+  write_sound value core s = record { number = s.number; zero = s.zero; cache = write_holds config core.cache (line_number base address) (word_in_line address) value s.cache; touches = s.touches }
 
   reserved_sound : (reservation : Option ℕ) (core : HartValue) → IsSoundHart config core → IsSoundHart config (with_reservation reservation core)
-  reserved_sound reservation core s = record { number = s.number; zero = s.zero; cache = s.cache }
+  reserved_sound reservation core s = record { number = s.number; zero = s.zero; cache = s.cache; touches = s.touches }
 
   module _ (old cost : ℕ) (core : HartValue) (s : IsSoundHart config core) where
     hit_step : (access : Access) → IsStep config core.number id (hit access base address old cost core, None)
@@ -52,7 +53,7 @@ module _ (config : RawConfig) (base address : ℕ) (id : Id) where
     asked_below (Amo op rd operand) = (refl, low)
 
     missed_step : (access : Access) → IsStep config core.number id (missed access id (line_number base address) core)
-    missed_step access = record { sound = record { number = s.number; zero = s.zero; cache = s.cache }; same = refl; ask = asked_below access }
+    missed_step access = record { sound = record { number = s.number; zero = s.zero; cache = s.cache; touches = s.touches }; same = refl; ask = asked_below access }
 
     looked_up_step : (held : Option HeldLine) (access : Access) → IsStep config core.number id (looked_up held access base address cost id core)
     unfolding looked_up
@@ -80,7 +81,8 @@ pub accessed_step : (config : RawConfig) (code : CodeValue) (address cost : ℕ)
 unfolding accessed
 accessed_step config code address cost id core access whole s = elim (cases_Bool (is_aligned access address)) [
   | inl aligned ↦ elim (cases_Bool (is_in_memory code address)) [
-    | inl inside ↦ rw (aligned, inside) (tried_step config code.base address id (line_below code (lines_of config) address whole inside) cost core s access)
+    | inl inside ↦ rw (aligned, inside) (tried_step config code.base address id (line_below code (lines_of config) address whole inside) cost (touched_at id.cycle (line_number code.base address) core)
+        (touched_sound config id.cycle (line_number code.base address) core s) access)
     | inr outside ↦ rw (aligned, outside) (trapped_step config id core s id.cycle (Outside address))
   ]
   | inr misaligned ↦ rw misaligned (trapped_step config id core s id.cycle (Misaligned address))

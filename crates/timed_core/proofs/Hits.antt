@@ -8,8 +8,10 @@ use Rattle.mesi_cache.specs.declared.lines.CacheLine.{CacheLine}
 use Rattle.mesi_cache.specs.declared.lines.Held.{Held}
 use Rattle.mesi_cache.specs.Lines.{held_line}
 use Rattle.mesi_cache.specs.Words.{word_of}
-use Rattle.timed_core.specs.Accesses.{hits, word_in_line, hit, held_in, missed, looked_up, tried}
+use Rattle.timed_core.specs.Accesses.{is_aligned, hits, word_in_line, hit, held_in, missed, looked_up, tried, accessed}
+use Rattle.timed_core.specs.Code.{CodeValue, is_in_memory}
 use Rattle.timed_core.specs.Cores.{HartValue, line_number}
+use Rattle.timed_core.specs.Touches.{touched_at}
 use Rattle.timed_core.specs.declared.accesses.Access.{Access}
 use Rattle.timed_core.specs.declared.accesses.Access.TheVariants.{Load, Store, LoadReserved, StoreConditional, Amo}
 use Rattle.timed_core.specs.Outcomes.{IsReady}
@@ -70,3 +72,9 @@ looks_up (Store op value) base address id core other = refl
 looks_up (LoadReserved rd) base address id core other = refl
 looks_up (StoreConditional rd value) base address id core other = absurd (other rd value refl)
 looks_up (Amo op rd operand) base address id core other = refl
+
+-- an access that doesn't trap touches its line's set, and is tried
+pub is_tried : (code : CodeValue) (access : Access) (address : ℕ) (id : Id) (core : HartValue) → is_aligned access address ≡ true → is_in_memory code address ≡ true
+    → accessed code access address 1 id core ≡ tried access code.base address 1 id (touched_at id.cycle (line_number code.base address) core)
+unfolding accessed
+is_tried code access address id core aligned inside = rw (aligned, inside) refl

@@ -22,9 +22,9 @@ module _ (config : RawConfig) (code : CodeValue) (whole : length code.bytes ≡ 
   called_step : (cost : ℕ) → IsStep config core.number id (called cost id core)
   unfolding called
   called_step cost = elim (cases_Bool (get_or core.registers 17 0 == 1)) [
-    | inl puts ↦ rw puts (record { sound = record { number = s.number; zero = s.zero; cache = s.cache }; same = refl; ask = (refl, tt) })
+    | inl puts ↦ rw puts (record { sound = record { number = s.number; zero = s.zero; cache = s.cache; touches = s.touches }; same = refl; ask = (refl, tt) })
     | inr other ↦ elim (cases_Bool (get_or core.registers 17 0 == 93)) [
-      | inl exits ↦ rw (other, exits) (quiet config id core s _ refl refl refl)
+      | inl exits ↦ rw (other, exits) (quiet config id core s _ refl refl refl refl)
       | inr none ↦ rw (other, none) (trapped_step config id core s id.cycle _)
     ]
   ]
@@ -32,8 +32,8 @@ module _ (config : RawConfig) (code : CodeValue) (whole : length code.bytes ≡ 
   performed_step : (effect : Effect) (cost : ℕ) → IsStep config core.number id (performed code effect cost id core)
   unfolding performed
   performed_step (Write rd value) cost = gives_step config id core s rd value cost
-  performed_step (Jump rd target) cost = record { sound = record { number = s.number; zero = zero_kept core.registers rd (next_of core.pc) s.zero; cache = s.cache }; same = refl; ask = tt }
-  performed_step (Branch target) cost = quiet config id core s (completed core core.registers target cost) refl refl refl
+  performed_step (Jump rd target) cost = record { sound = record { number = s.number; zero = zero_kept core.registers rd (next_of core.pc) s.zero; cache = s.cache; touches = s.touches }; same = refl; ask = tt }
+  performed_step (Branch target) cost = quiet config id core s (completed core core.registers target cost) refl refl refl refl
   performed_step Pass cost = goes_on_step config id core s cost
   performed_step (Memory address access) cost = accessed_step config code address cost id core access whole s
   performed_step (Stop trap) cost = trapped_step config id core s id.cycle trap
@@ -53,7 +53,7 @@ module _ (config : RawConfig) (code : CodeValue) (whole : length code.bytes ≡ 
   waited = record core { counts = record core.counts { waits = raised core.counts.waits } }
 
   waiting_step : (waiting : Bool) → IsStep config core.number id (cond waiting (waited, None) (fetched code (word_at code core.pc) id core))
-  waiting_step true = quiet config id core s waited refl refl refl
+  waiting_step true = quiet config id core s waited refl refl refl refl
   waiting_step false = fetched_step (word_at code core.pc)
 
   pub stepped_step : IsStep config core.number id (stepped code id core)
@@ -61,7 +61,7 @@ module _ (config : RawConfig) (code : CodeValue) (whole : length code.bytes ≡ 
   stepped_step = elim (cases_Bool (is_running core.ended)) [
     | inl running ↦ elim (cases_Bool (core.busy == 0)) [
       | inl free ↦ rw (running, free) (waiting_step core.waiting)
-      | inr busy ↦ rw (running, busy) (quiet config id core s _ refl refl refl)
+      | inr busy ↦ rw (running, busy) (quiet config id core s _ refl refl refl refl)
     ]
     | inr ended ↦ rw ended (stays config id core s)
   ]

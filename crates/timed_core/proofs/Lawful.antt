@@ -2,6 +2,7 @@
 use Rattle.std.proofs.Common.{◌≡◌, ◌∙◌, ℕ, ◌+◌, ◌<◌, Bool, true, false, List, [], ◌∷◌, ◌++◌, Option, None, Some, filter, length, nat_le, nat_lt, refl, subst, arith, cond}
 use Rattle.std.specs.List.{All, AllByRecursion}
 use Rattle.std.specs.Option.{IfSome}
+use Rattle.std.proofs.lemmas.List.{length-replicate}
 use Rattle.std.proofs.lemmas.List.Elements.{All-nil, All-head, All-tail, All-filter}
 use Rattle.slack_base.specs.declared.messages.Ask.{Ask}
 use Rattle.slack_base.specs.declared.messages.Post.{Post}
@@ -97,6 +98,6 @@ all_puts config core post s low = record {
 
 pub all_starts : AllStarts
 all_starts config entry number low = record {
-  hart = record { number = low; zero = refl; cache = empty_holds config };
+  hart = record { number = low; zero = refl; cache = empty_holds config; touches = length-replicate config.sets 0 };
   posts = All-nil _;
 }

@@ -14,6 +14,7 @@ use Rattle.mesi_cache.specs.Lines.{held_line, may_write}
 use Rattle.mesi_cache.specs.Caches.{CacheValue, line_in, read_line, write_line}
 use Rattle.timed_core.specs.Code.{CodeValue, is_in_memory}
 use Rattle.timed_core.specs.Cores.{HartValue, gives, goes_on, trapped, line_number}
+use Rattle.timed_core.specs.Touches.{touched_at}
 use Rattle.timed_core.specs.declared.accesses.Access.{Access}
 use Rattle.timed_core.specs.declared.accesses.Access.TheVariants.{Load, Store, LoadReserved, StoreConditional, Amo}
 
@@ -96,10 +97,10 @@ tried (StoreConditional rd value) base address cost id core =
     else (failed rd cost core, None)
 tried access base address cost id core = looked_up (held_in core.cache (line_number base address)) access base address cost id core
 
--- an access: alignment is checked first, then that the address is in memory
+-- an access: alignment is checked first, then that the address is in memory; one that doesn't trap touches its line's set
 unfoldable pub accessed : CodeValue → Access → (address cost : ℕ) → Id → HartValue → HartValue × Option Ask
 accessed code access address cost id core =
     if is_aligned access address
-    then (if is_in_memory code address then tried access code.base address cost id core
+    then (if is_in_memory code address then tried access code.base address cost id (touched_at id.cycle (line_number code.base address) core)
     else (trapped core id.cycle (Outside address), None))
     else (trapped core id.cycle (Misaligned address), None)

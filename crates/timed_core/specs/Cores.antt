@@ -16,6 +16,8 @@ pub record HartValue : Type 0 where
   -- the address of the word that LR reserved, until the reservation is lost
   pub reservation : Option ℕ
   pub cache : CacheValue
+  -- for each set of the cache the cycle from which on the core touched it no more
+  pub touches : List ℕ
   -- the cycles that the last instruction still takes
   pub busy : ℕ
   -- a line was asked for, and the answer hasn't come
@@ -81,6 +83,7 @@ first_core config entry number = record {
   registers = first_registers config number;
   reservation = None;
   cache = empty_cache config.sets config.ways;
+  touches = replicate config.sets 0;
   busy = 0;
   waiting = false;
   ended = Running;

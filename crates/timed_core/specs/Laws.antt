@@ -21,11 +21,13 @@ pub record IsCacheOf (config : RawConfig) (cache : CacheValue) : Type 0 where
   pub shape : HasShape config.sets config.ways cache
   pub lines : HoldsBelow (lines_of config) cache
 
--- a hart of the configuration: its number is below the cores, x0 is 0, and it has a cache of the configuration
+-- a hart of the configuration: its number is below the cores, x0 is 0, it has a cache of the configuration, and a touch of
+-- each of its sets
 pub record IsSoundHart (config : RawConfig) (hart : HartValue) : Type 0 where
   pub number : hart.number < config.cores
   pub zero : slice_index hart.registers 0 ≡ 0
   pub cache : IsCacheOf config hart.cache
+  pub touches : length hart.touches ≡ config.sets
 
 -- a core of the configuration: its posts name lines of memory alone
 pub record IsSoundCore (config : RawConfig) (core : CoreValue HartValue) : Type 0 where

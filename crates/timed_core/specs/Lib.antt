@@ -11,5 +11,6 @@ pub mod Parts
 pub mod Posts
 pub mod Stretches
 pub mod Ticks
+pub mod TouchedCaches
 pub mod Touches
 pub mod Views

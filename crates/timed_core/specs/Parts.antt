@@ -1,9 +1,9 @@
--- All of a hart but its cache.
+-- All of a hart but its cache and its touches.
 use Rattle.std.specs.Prelude.{ℕ, Bool, List, Option}
 use Rattle.slack_base.specs.declared.cores.CoreEnd.{CoreEnd}
 use Rattle.slack_base.specs.declared.cores.Counts.{Counts}
-use Rattle.mesi_cache.specs.Caches.{CacheValue}
 use Rattle.timed_core.specs.Cores.{HartValue}
+use Rattle.timed_core.specs.TouchedCaches.{TouchedCache}
 
 pub record PartsValue : Type 0 where
   pub number : ℕ
@@ -27,14 +27,15 @@ parts_of h = record {
   counts = h.counts;
 }
 
--- the hart of these parts and this cache
-abbrev pub hart_of : PartsValue → CacheValue → HartValue
+-- the hart of these parts and this cache with its touches
+abbrev pub hart_of : PartsValue → TouchedCache → HartValue
 hart_of p cache = record {
   number = p.number;
   pc = p.pc;
   registers = p.registers;
   reservation = p.reservation;
-  cache = cache;
+  cache = cache.cache;
+  touches = cache.touches;
   busy = p.busy;
   waiting = p.waiting;
   ended = p.ended;

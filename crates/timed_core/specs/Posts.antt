@@ -14,6 +14,7 @@ use Rattle.mesi_cache.specs.declared.lines.CacheLine.{CacheLine}
 use Rattle.mesi_cache.specs.Lines.{filled}
 use Rattle.mesi_cache.specs.Caches.{CacheValue, line_in, fill_line, victim_of, snoop_line}
 use Rattle.timed_core.specs.Cores.{HartValue, line_number}
+use Rattle.timed_core.specs.Touches.{touched_at}
 
 -- a reservation in the line is lost
 abbrev pub kept : (base line : ℕ) → Option ℕ → Option ℕ
@@ -62,10 +63,10 @@ given_up base line core = without_reservation base line (snooped line true core)
 abbrev pub flush_of : Id → ℕ → CacheValue → Ask
 flush_of id line cache = Flush id line (option_map (λ l. l.words) (line_in cache line))
 
--- a post about a line, by its kind
+-- a post about a line, by its kind: a reply and a snoop touch the line's set, at the clock of the tick
 unfoldable pub applied : PostKind → (base line : ℕ) → Id → HartValue → HartValue × Option Ask
-applied (Reply exclusive words) base line id core = replied base line exclusive words id core
+applied (Reply exclusive words) base line id core = replied base line exclusive words id (touched_at id.cycle line core)
 applied Retry base line id core = (retried core, None)
-applied SnoopShare base line id core = (snooped line false core, Some (flush_of id line core.cache))
-applied SnoopOwn base line id core = (given_up base line core, Some (flush_of id line core.cache))
+applied SnoopShare base line id core = (snooped line false (touched_at id.cycle line core), Some (flush_of id line core.cache))
+applied SnoopOwn base line id core = (given_up base line (touched_at id.cycle line core), Some (flush_of id line core.cache))
 applied Invalidate base line id core = (given_up base line core, None)

@@ -16,7 +16,8 @@ use slack_base::{Config, CoreEnd, Counts, OutOfMemory, Trap, raised};
 use std::alloc::Global;
 use std::marker::Model;
 
-/// A hart with its cache. A contract sees the record of its fields, and the cache as it was at its mark.
+/// A hart with its cache. A contract sees the record of its fields, and the cache with its touches as they were at its
+/// mark.
 #[derive(Drop)]
 pub struct Hart {
     number: u32,
@@ -46,7 +47,8 @@ impl Model for Hart {
         pc = c.pc;
         registers = c.registers;
         reservation = c.reservation;
-        cache = c.cache.value;
+        cache = c.cache.value.cache;
+        touches = c.cache.value.touches;
         busy = c.busy;
         waiting = c.waiting;
         ended = c.ended;
@@ -73,6 +75,8 @@ impl Hart {
     ghost use Rattle.timed_core.specs.Accesses.{held_in};
     ghost use Rattle.timed_core.specs.Noting.{AreNotedSince};
     ghost use Rattle.timed_core.specs.Parts.{hart_of, parts_of};
+    ghost use Rattle.timed_core.specs.TouchedCaches.{cache_of};
+    ghost use Rattle.timed_core.specs.Touches.{touch_of, touched_at};
     ghost use Rattle.timed_core.specs.Cores.{IsBy, first_core, is_running, with_register, completed, goes_on, gives, trapped};
 
     /// A hart before the first cycle.
@@ -105,7 +109,7 @@ impl Hart {
         })
     }
 
-    /// All of the hart but its cache.
+    /// All of the hart but its cache and its touches.
     pub fn parts(&self) -> Parts
         ensures { result ≡ parts_of self.now.value }
     {
@@ -121,15 +125,15 @@ impl Hart {
         }
     }
 
-    /// Marks the cache. The rest of the hart is to be kept by the caller.
+    /// Marks the cache with its touches. The rest of the hart is to be kept by the caller.
     pub fn mark(&mut self) -> Result<(), OutOfMemory>
-        ensures ok { OnOk result (self.new ≡ record { value = self.old.value; saved = Some self.old.value.cache }) }
+        ensures ok { OnOk result (self.new ≡ record { value = self.old.value; saved = Some (cache_of self.old.value) }) }
         ensures err { OnErr result (self.new ≡ self.old) }
     {
         self.cache.mark()
     }
 
-    /// Takes the cache back to its mark, which is used up, and the rest of the hart to these parts.
+    /// Takes the cache with its touches back to its mark, which is used up, and the rest of the hart to these parts.
     pub fn undo(&mut self, parts: &Parts)
         ensures marked { IfSome self.old.saved (λ cache. self.new.value ≡ hart_of parts.now cache) }
         ensures saved { self.new.saved ≡ None }
@@ -138,9 +142,9 @@ impl Hart {
         self.take_parts(parts);
     }
 
-    /// The parts replace all of the hart but its cache.
+    /// The parts replace all of the hart but its cache and its touches.
     fn take_parts(&mut self, parts: &Parts)
-        ensures { self.new ≡ record self.old { value = hart_of parts.now self.old.value.cache } }
+        ensures { self.new ≡ record self.old { value = hart_of parts.now (cache_of self.old.value) } }
     {
         self.number = parts.number;
         self.pc = parts.pc;
@@ -161,7 +165,7 @@ impl Hart {
 
     /// How many sets of the cache were noted since the mark.
     pub fn noted(&self) -> u64
-        ensures { IfSome self.now.saved (λ cache. AreNotedSince cache self.now.value.cache result) }
+        ensures { IfSome self.now.saved (λ cache. AreNotedSince cache (cache_of self.now.value) result) }
     {
         self.cache.noted()
     }
@@ -196,6 +200,22 @@ impl Hart {
         ensures { result ≡ held_in self.now.value.cache line }
     {
         self.cache.peek(line)
+    }
+
+    /// The touch of the set of a line.
+    pub fn touch_of(&self, line: u32) -> u64
+        ensures { result ≡ touch_of self.now.value.touches line }
+    {
+        self.cache.touch_of(line)
+    }
+
+    /// Touches the set of a line at a cycle.
+    #[inline(always)]
+    fn touch(&mut self, line: u32, cycle: u64)
+        requires { cycle ≤ TOP }
+        ensures { self.new ≡ record self.old { value = touched_at cycle line self.old.value } }
+    {
+        self.cache.touch(line, cycle);
     }
 
     pub fn end(&self) -> CoreEnd

@@ -1,4 +1,4 @@
-//! A core as it was at its mark, but for its cache.
+//! A core as it was at its mark, but for its cache and its touches.
 ghost use Rattle.std.specs.Prelude.{◌≡◌, IfOk};
 
 use crate::harts::Hart;
@@ -6,7 +6,7 @@ use slack_base::{CoreEnd, Counts, OutOfMemory};
 use stamp_queue::Inbox;
 use std::marker::Model;
 
-/// All of a hart but its cache. A contract sees the record of the fields.
+/// All of a hart but its cache and its touches. A contract sees the record of the fields.
 #[derive(Drop)]
 pub struct Parts {
     pub number: u32,
@@ -50,7 +50,7 @@ pub struct Saved {
 impl Saved {
     ghost use Rattle.timed_core.specs.Parts.{parts_of};
 
-    /// A copy of all of a hart but its cache, and of its inbox.
+    /// A copy of all of a hart but its cache and its touches, and of its inbox.
     pub fn of(hart: &Hart, inbox: &Inbox) -> Result<Saved, OutOfMemory>
         ensures { IfOk result (λ saved. saved ≡ record { parts = parts_of hart.now.value; inbox = inbox.now }) }
     {

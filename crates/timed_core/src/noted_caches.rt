@@ -1,4 +1,5 @@
-//! A cache that may be marked: from then on what a set holds is noted before it first changes.
+//! A cache with a touch of each of its sets, that may be marked: from then on what a set holds, and its touch, are noted
+//! before either first changes.
 ghost use Rattle.std.specs.Prelude.{◌≡◌, ◌<◌, ◌≤◌, ◌∷◌, [], Some, None, IfSome, IfNone, IfOk, OnOk, OnErr, IsTrue};
 
 use crate::noted_sets::NotedSets;
@@ -7,8 +8,9 @@ use slack_base::{OutOfMemory, Words};
 use std::alloc::Global;
 use std::marker::Model;
 
-/// A cache, with a journal of what its sets held, where it is marked. A contract sees the cache as it is now, and the
-/// cache as it was at the mark.
+/// A cache with a touch of each of its sets: the cycle from which on the set was touched no more, at first 0. Where it is
+/// marked, it has a journal of what they were. A contract sees the cache and the touches as they are now, and as they were
+/// at the mark.
 #[derive(Drop)]
 pub struct NotedCache {
     sets: NotedSets,
@@ -17,12 +19,12 @@ pub struct NotedCache {
 
 impl Model for NotedCache {
     ghost use Rattle.slack_base.specs.Marks.{Marked};
-    ghost use Rattle.mesi_cache.specs.Caches.{CacheValue};
     ghost use Rattle.timed_core.specs.Journals.{cache_then, HasRoom};
+    ghost use Rattle.timed_core.specs.TouchedCaches.{TouchedCache};
 
-    ghost Value = { Marked CacheValue };
+    ghost Value = { Marked TouchedCache };
 
-    ghost view = { λ c. record { value = c.sets.cache; saved = cache_then c.marked c.sets } };
+    ghost view = { λ c. record { value = record { cache = c.sets.cache; touches = c.sets.touches }; saved = cache_then c.marked c.sets } };
 
     ghost invariant = { λ c. HasRoom c.marked c.sets };
 }
@@ -34,13 +36,16 @@ impl NotedCache {
     ghost use Rattle.mesi_cache.specs.Lines.{filled, held_line, may_write};
     ghost use Rattle.mesi_cache.specs.Places.{IsFoundIn};
     ghost use Rattle.mesi_cache.specs.Words.{word_of};
+    ghost use Rattle.slack_base.specs.declared.bounds.TheConstants.{TOP};
+    ghost use Rattle.std.specs.Prelude.{replicate};
     ghost use Rattle.timed_core.specs.Noting.{AreNotedSince};
+    ghost use Rattle.timed_core.specs.Touches.{touch_line, touch_of};
 
-    /// The empty cache of so many sets with so many ways, not marked.
+    /// The empty cache of so many sets with so many ways, all touches 0, not marked.
     pub fn new(alloc: Global, sets: u32, ways: u32) -> Result<NotedCache, OutOfMemory>
         requires sets { IsTrue (is_among sets (1 ∷ 2 ∷ 4 ∷ 8 ∷ 16 ∷ 32 ∷ 64 ∷ [])) }
         requires ways { (1 ≤ ways) × (ways ≤ 8) }
-        ensures { IfOk result (λ cache. cache ≡ record { value = empty_cache sets ways; saved = None }) }
+        ensures { IfOk result (λ cache. cache ≡ record { value = record { cache = empty_cache sets ways; touches = replicate sets 0 }; saved = None }) }
     {
         Ok(NotedCache {
             sets: NotedSets::new(alloc, sets, ways)?,
@@ -51,16 +56,16 @@ impl NotedCache {
     /// Where a line stands: none where the cache doesn't hold it.
     #[inline(always)]
     pub fn find(&self, line: u32) -> Option<Found>
-        ensures held { option_map (λ f. f.held) result ≡ option_map (λ l. l.held) (line_in self.now.value line) }
+        ensures held { option_map (λ f. f.held) result ≡ option_map (λ l. l.held) (line_in self.now.value.cache line) }
         ensures line { IfSome result (λ f. f.line ≡ line) }
-        ensures found { IfSome result (λ f. IsFoundIn self.now.value f) }
+        ensures found { IfSome result (λ f. IsFoundIn self.now.value.cache f) }
     {
         self.sets.find(line)
     }
 
     /// The state and the words of a line: none where the cache doesn't hold it.
     pub fn peek(&self, line: u32) -> Option<HeldLine>
-        ensures { result ≡ option_map held_line (line_in self.now.value line) }
+        ensures { result ≡ option_map held_line (line_in self.now.value.cache line) }
     {
         self.sets.peek(line)
     }
@@ -68,9 +73,9 @@ impl NotedCache {
     /// A word, 0 to 3, of a line that was found.
     #[inline(always)]
     pub fn word(&self, found: Found, word: u32) -> u32
-        requires found { IsFoundIn self.now.value found }
+        requires found { IsFoundIn self.now.value.cache found }
         requires in_line { word < 4 }
-        ensures { option_map (λ l. word_of l.words word) (line_in self.now.value found.line) ≡ Some result }
+        ensures { option_map (λ l. word_of l.words word) (line_in self.now.value.cache found.line) ≡ Some result }
     {
         self.sets.word(found, word)
     }
@@ -78,8 +83,8 @@ impl NotedCache {
     /// Uses a line that was found, as a read does: it becomes the most recent of its set.
     #[inline(always)]
     pub fn use_found(&mut self, found: Found)
-        requires { IsFoundIn self.old.value found }
-        ensures value { self.new.value ≡ read_line self.old.value found.line }
+        requires { IsFoundIn self.old.value.cache found }
+        ensures value { self.new.value ≡ record self.old.value { cache = read_line self.old.value.cache found.line } }
         ensures saved { self.new.saved ≡ self.old.saved }
     {
         self.sets.prepare(found.line, self.marked);
@@ -90,10 +95,10 @@ impl NotedCache {
     /// recent of its set.
     #[inline(always)]
     pub fn write_found(&mut self, found: Found, word: u32, value: u32)
-        requires found { IsFoundIn self.old.value found }
+        requires found { IsFoundIn self.old.value.cache found }
         requires writable { IsTrue (may_write found.held) }
         requires in_line { word < 4 }
-        ensures value { self.new.value ≡ write_line self.old.value found.line word value }
+        ensures value { self.new.value ≡ record self.old.value { cache = write_line self.old.value.cache found.line word value } }
         ensures saved { self.new.saved ≡ self.old.saved }
     {
         self.sets.prepare(found.line, self.marked);
@@ -102,8 +107,8 @@ impl NotedCache {
 
     /// Puts a line with its words at the front of its set, Exclusive or Shared: the line that fell out, if one did.
     pub fn fill(&mut self, line: u32, exclusive: bool, words: Words) -> Option<Victim>
-        ensures victim { result ≡ victim_of self.old.value (filled line exclusive words) }
-        ensures value { self.new.value ≡ fill_line self.old.value (filled line exclusive words) }
+        ensures victim { result ≡ victim_of self.old.value.cache (filled line exclusive words) }
+        ensures value { self.new.value ≡ record self.old.value { cache = fill_line self.old.value.cache (filled line exclusive words) } }
         ensures saved { self.new.saved ≡ self.old.saved }
     {
         self.sets.prepare(line, self.marked);
@@ -112,15 +117,34 @@ impl NotedCache {
 
     /// Another core wants a line: it takes it (`own`) or reads it. The answer is the line's words, if the cache holds it.
     pub fn snoop(&mut self, wanted: u32, own: bool) -> Option<Words>
-        ensures words { result ≡ option_map (λ l. l.words) (line_in self.old.value wanted) }
-        ensures value { self.new.value ≡ snoop_line self.old.value wanted own }
+        ensures words { result ≡ option_map (λ l. l.words) (line_in self.old.value.cache wanted) }
+        ensures value { self.new.value ≡ record self.old.value { cache = snoop_line self.old.value.cache wanted own } }
         ensures saved { self.new.saved ≡ self.old.saved }
     {
         self.sets.prepare(wanted, self.marked);
         self.sets.snoop(wanted, own)
     }
 
-    /// Marks the cache as it is now: an older mark is replaced. The journal has room for each set then, so that nothing
+    /// Touches the set of a line at a cycle, whether the line is held or not: from the next cycle on it is left alone, as far
+    /// as is known. It takes no memory.
+    #[inline(always)]
+    pub fn touch(&mut self, touched: u32, cycle: u64)
+        requires { cycle ≤ TOP }
+        ensures value { self.new.value ≡ record self.old.value { touches = touch_line cycle self.old.value.touches touched } }
+        ensures saved { self.new.saved ≡ self.old.saved }
+    {
+        self.sets.prepare(touched, self.marked);
+        self.sets.touch(touched, cycle);
+    }
+
+    /// The cycle from which on the set of a line was touched no more. It takes no memory.
+    pub fn touch_of(&self, line: u32) -> u64
+        ensures { result ≡ touch_of self.now.value.touches line }
+    {
+        self.sets.touch_of(line)
+    }
+
+    /// Marks the cache and its touches as they are now: an older mark is replaced. The journal has room for each set then, so that nothing
     /// that is done to a marked cache takes memory.
     pub fn mark(&mut self) -> Result<(), OutOfMemory>
         ensures ok { OnOk result (self.new ≡ record { value = self.old.value; saved = Some self.old.value }) }
@@ -132,7 +156,7 @@ impl NotedCache {
         Ok(())
     }
 
-    /// Takes the cache back to what it was at its mark, which is used up.
+    /// Takes the cache and its touches back to what they were at the mark, which is used up.
     pub fn undo(&mut self)
         ensures marked { IfSome self.old.saved (λ v. self.new.value ≡ v) }
         ensures unmarked { IfNone self.old.saved (self.new.value ≡ self.old.value) }
@@ -142,7 +166,7 @@ impl NotedCache {
         self.marked = false;
     }
 
-    /// Gives up the mark, and leaves the cache as it is.
+    /// Gives up the mark, and leaves the cache and its touches as they are.
     pub fn keep(&mut self)
         ensures { self.new ≡ record { value = self.old.value; saved = None } }
     {

@@ -1,4 +1,4 @@
-//! A cache, and a journal of what its sets held.
+//! A cache with a touch of each of its sets, and a journal of what they were.
 ghost use Rattle.std.specs.Prelude.{◌≡◌, ◌+◌, ◌<◌, ◌≤◌, [], length, true, Some, IfSome, IfNone, IfOk, OnOk, IsTrue};
 
 use mesi_cache::{Cache, Found, HeldLine, SetCopy, Victim};
@@ -6,31 +6,34 @@ use slack_base::{OutOfMemory, Words};
 use std::alloc::Global;
 use std::marker::Model;
 
-/// What the set of a number held.
+/// What the set of a number held, and its touch.
 #[derive(Drop)]
 pub struct SetNote {
     pub set: u32,
     pub copy: SetCopy,
+    pub touch: u64,
 }
 
-/// A cache, and a journal of what sets of it held. A flag of each set says whether the set stands in the journal. A
-/// contract sees the cache, the journal, and how many notes the journal has room for.
+/// A cache with a touch of each of its sets, and a journal of what sets and touches were. A flag of each set says whether
+/// the set stands in the journal. A contract sees the cache, the touches, the journal, and how many notes the journal has
+/// room for.
 #[derive(Drop)]
 pub struct NotedSets {
     cache: Cache,
+    touches: Vec<u64>,
     journal: Vec<SetNote>,
     flags: Vec<bool>,
 }
 
 impl Model for NotedSets {
-    ghost use Rattle.std.specs.Prelude.{length, vec_capacity};
+    ghost use Rattle.std.specs.Prelude.{◌≡◌, length, vec_capacity};
     ghost use Rattle.timed_core.specs.Journals.{SetsValue, IsFlagged};
 
     ghost Value = { SetsValue };
 
-    ghost view = { λ s. record { cache = s.cache; journal = s.journal.items; room = vec_capacity s.journal } };
+    ghost view = { λ s. record { cache = s.cache; touches = s.touches.items; journal = s.journal.items; room = vec_capacity s.journal } };
 
-    ghost invariant = { λ s. IsFlagged s.flags.items (length s.cache.sets) s.cache.ways s.journal.items };
+    ghost invariant = { λ s. IsFlagged s.flags.items (length s.cache.sets) s.cache.ways s.journal.items × (length s.touches.items ≡ length s.cache.sets) };
 }
 
 impl NotedSets {
@@ -42,20 +45,25 @@ impl NotedSets {
     ghost use Rattle.mesi_cache.specs.Lines.{filled, held_line, may_write};
     ghost use Rattle.mesi_cache.specs.Places.{IsFoundIn};
     ghost use Rattle.mesi_cache.specs.Words.{word_of};
-    ghost use Rattle.std.specs.Prelude.{slice_set};
-    ghost use Rattle.timed_core.specs.Journals.{restored, restored_cache, is_noted, IsReadyFor};
+    ghost use Rattle.slack_base.specs.declared.bounds.TheConstants.{TOP};
+    ghost use Rattle.std.specs.Prelude.{replicate, slice_set};
+    ghost use Rattle.timed_core.specs.Journals.{restored, restored_touches, restored_cache, is_noted, IsReadyFor};
+    ghost use Rattle.timed_core.specs.Touches.{touch_line, touch_of};
 
-    /// The empty cache of so many sets with so many ways, and nothing noted.
+    /// The empty cache of so many sets with so many ways, all touches 0, and nothing noted.
     pub fn new(alloc: Global, sets: u32, ways: u32) -> Result<NotedSets, OutOfMemory>
         requires sets { IsTrue (is_among sets (1 ∷ 2 ∷ 4 ∷ 8 ∷ 16 ∷ 32 ∷ 64 ∷ [])) }
         requires ways { (1 ≤ ways) × (ways ≤ 8) }
         ensures cache { IfOk result (λ noted. noted.cache ≡ empty_cache sets ways) }
+        ensures touches { IfOk result (λ noted. noted.touches ≡ replicate sets 0) }
         ensures journal { IfOk result (λ noted. noted.journal ≡ []) }
     {
         let cache = Cache::new(alloc, sets, ways)?;
+        let touches = vec![in alloc; 0; sets as usize]?;
         let flags = vec![in alloc; false; sets as usize]?;
         Ok(NotedSets {
             cache,
+            touches,
             journal: Vec::new(alloc),
             flags,
         })
@@ -64,6 +72,7 @@ impl NotedSets {
     /// Makes room for a note of each set.
     pub fn make_room(&mut self) -> Result<(), OutOfMemory>
         ensures cache { self.new.cache ≡ self.old.cache }
+        ensures touches { self.new.touches ≡ self.old.touches }
         ensures journal { self.new.journal ≡ self.old.journal }
         ensures room { self.old.room ≤ self.new.room }
         ensures ok { OnOk result (length self.new.cache.sets ≤ self.new.room) }
@@ -76,19 +85,22 @@ impl NotedSets {
     /// Whether the flag of a line's set is up.
     #[inline(always)]
     fn has_noted(&self, line: u32) -> bool
-        ensures { result ≡ true → is_noted (set_number self.now.cache line) self.now.journal ≡ true }
+        ensures each { length self.now.touches ≡ length self.now.cache.sets }
+        ensures noted { result ≡ true → is_noted (set_number self.now.cache line) self.now.journal ≡ true }
     {
         let set = self.cache.set_of(line);
         self.flags[set as usize]
     }
 
-    /// Notes what the set of a line holds, where the set doesn't stand in the journal yet.
+    /// Notes what the set of a line holds, and its touch, where the set doesn't stand in the journal yet.
     #[cold]
     #[inline(never)]
     fn note(&mut self, line: u32)
         requires { length self.old.cache.sets ≤ self.old.room }
         ensures cache { self.new.cache ≡ self.old.cache }
+        ensures touches { self.new.touches ≡ self.old.touches }
         ensures kept { restored self.new.cache.sets self.new.journal ≡ restored self.old.cache.sets self.old.journal }
+        ensures kept_touches { restored_touches self.new.touches self.new.journal ≡ restored_touches self.old.touches self.old.journal }
         ensures noted { is_noted (set_number self.old.cache line) self.new.journal ≡ true }
         ensures room { self.new.room ≡ self.old.room }
     {
@@ -97,12 +109,13 @@ impl NotedSets {
             return;
         }
         let copy = self.cache.set_copy(set);
-        self.journal.push_reserved(SetNote { set, copy });
+        let touch = self.touches[set as usize];
+        self.journal.push_reserved(SetNote { set, copy, touch });
         self.flags[set as usize] = true;
     }
 
-    /// Makes the set of a line ready to change: where there is a mark, it stands in the journal then. It takes no
-    /// memory.
+    /// Makes the set of a line and its touch ready to change: where there is a mark, the set stands in the journal then. It
+    /// takes no memory.
     #[inline(always)]
     pub fn prepare(&mut self, line: u32, marked: bool)
         requires { marked ≡ true → length self.old.cache.sets ≤ self.old.room }
@@ -111,6 +124,24 @@ impl NotedSets {
         if marked && !self.has_noted(line) {
             self.note(line);
         }
+    }
+
+    /// Touches the set of a line at a cycle. It takes no memory.
+    #[inline(always)]
+    pub fn touch(&mut self, line: u32, cycle: u64)
+        requires { cycle ≤ TOP }
+        ensures { self.new ≡ record self.old { touches = touch_line cycle self.old.touches line } }
+    {
+        let set = self.cache.set_of(line);
+        self.touches[set as usize] = cycle + 1;
+    }
+
+    /// The touch of the set of a line. It takes no memory.
+    pub fn touch_of(&self, line: u32) -> u64
+        ensures { result ≡ touch_of self.now.touches line }
+    {
+        let set = self.cache.set_of(line);
+        self.touches[set as usize]
     }
 
     /// Where a line stands: none where the cache doesn't hold it.
@@ -179,8 +210,10 @@ impl NotedSets {
     /// Takes the latest note out of the journal.
     fn take_note(&mut self) -> Option<SetNote>
         ensures cache { self.new.cache ≡ self.old.cache }
+        ensures touches { self.new.touches ≡ self.old.touches }
         ensures room { self.new.room ≡ self.old.room }
         ensures taken { IfSome result (λ note. restored self.old.cache.sets self.old.journal ≡ restored (slice_set self.new.cache.sets note.set note.copy) self.new.journal) }
+        ensures taken_touch { IfSome result (λ note. restored_touches self.old.touches self.old.journal ≡ restored_touches (slice_set self.new.touches note.set note.touch) self.new.journal) }
         ensures inside { IfSome result (λ note. note.set < length self.new.cache.sets) }
         ensures fits { IfSome result (λ note. CanHold self.new.cache note.set note.copy) }
         ensures less { IfSome result (λ note. length self.old.journal ≡ length self.new.journal + 1) }
@@ -192,18 +225,19 @@ impl NotedSets {
         Some(note)
     }
 
-    /// Makes a set what it was when it was noted.
+    /// Makes a set and its touch what they were when it was noted.
     fn put(&mut self, note: &SetNote)
         requires set { note.now.set < length self.old.cache.sets }
         requires fits { CanHold self.old.cache note.now.set note.now.copy }
-        ensures { self.new ≡ record self.old { cache = with_set_numbered self.old.cache note.now.set note.now.copy } }
+        ensures { self.new ≡ record self.old { cache = with_set_numbered self.old.cache note.now.set note.now.copy; touches = slice_set self.old.touches note.now.set note.now.touch } }
     {
         self.cache.put_set(note.set, &note.copy);
+        self.touches[note.set as usize] = note.touch;
     }
 
-    /// Puts the sets of the journal back, which is empty then. It takes no memory.
+    /// Puts the sets of the journal and their touches back; it is empty then. It takes no memory.
     pub fn put_back(&mut self)
-        ensures { self.new ≡ record self.old { cache = restored_cache self.old.cache self.old.journal; journal = [] } }
+        ensures { self.new ≡ record self.old { cache = restored_cache self.old.cache self.old.journal; touches = restored_touches self.old.touches self.old.journal; journal = [] } }
     {
         while let Some(note) = self.take_note() {
             self.put(&note);

@@ -1,12 +1,13 @@
 //! A core and its tick.
 ghost use Rattle.std.specs.Prelude.{◌≡◌, ◌≤◌, ◌++◌, nat_le, nat_lt, filter, OnOk};
+ghost use Rattle.slack_base.specs.declared.bounds.TheConstants.{TOP};
 ghost use Rattle.timed_core.specs.Ticks.{asks_of, id_at, applied_all};
 
 use crate::code::Code;
 use crate::harts::Hart;
 use crate::marks::Saved;
 use mesi_cache::HeldLine;
-use slack_base::{Ask, AskList, Config, CoreEnd, Counts, Id, OutOfMemory, Post, TOP};
+use slack_base::{Ask, AskList, Config, CoreEnd, Counts, Id, OutOfMemory, Post};
 use stamp_queue::Inbox;
 use std::alloc::Global;
 use std::marker::Model;
@@ -45,6 +46,7 @@ impl TimedCore {
     ghost use Rattle.timed_core.specs.Cores.{IsBy, first_core, is_running};
     ghost use Rattle.timed_core.specs.Stretches.{AreTicks, quiet_of};
     ghost use Rattle.timed_core.specs.Ticks.{tick};
+    ghost use Rattle.timed_core.specs.TouchedCaches.{cache_of};
     ghost use Rattle.timed_core.specs.Touches.{touched_of};
 
     /// A core before the first cycle, whose pc is `entry`. It isn't marked.
@@ -138,12 +140,13 @@ impl TimedCore {
         self.inbox.put(post)
     }
 
-    /// The cycle from which on the core touched no more what the post is about: nothing is known of it, so it is the
-    /// greatest, `TOP`. It takes no memory.
-    pub fn touched(&self, _post: &Post) -> u64
-        ensures { result ≡ touched_of self.now.value.inner _post.now }
+    /// The cycle from which on the core touched no more the set of the line that the post is about: 0 where it never did. A
+    /// tick that applies a reply or a snoop touches its line's set, and so does one that executes a load, a store, LR, SC or
+    /// an AMO which doesn't trap, whether the line is held or not. It takes no memory.
+    pub fn touched(&self, post: &Post) -> u64
+        ensures { result ≡ touched_of self.now.value.inner post.now }
     {
-        TOP
+        self.hart.touch_of(post.line)
     }
 
     /// One tick at a cycle: the posts that are due are applied in their order, and then the core does nothing if it
@@ -251,8 +254,8 @@ impl TimedCore {
         self.hart.rest(due.saturating_sub(from))
     }
 
-    /// Marks the core as it is now: all of it but its cache is copied, and from then on what a set of the cache holds is
-    /// noted before it first changes. Room for the notes is made here, so that a marked core's ticks want no more
+    /// Marks the core as it is now: all of it but its cache and its touches is copied, and from then on what a set of the
+    /// cache holds and its touch are noted before either first changes. Room for the notes is made here, so that a marked core's ticks want no more
     /// memory than others. An older mark is replaced; where there is no memory for the new one, nothing changes.
     pub fn mark(&mut self) -> Result<(), OutOfMemory>
         ensures ok { OnOk result (self.new ≡ record { value = self.old.value; saved = Some self.old.value }) }
@@ -287,7 +290,7 @@ impl TimedCore {
     /// How many sets of its cache a marked core has noted.
     pub fn noted(&self) -> u64
         requires { IsSome self.now.saved }
-        ensures { IfSome self.now.saved (λ saved. AreNotedSince saved.inner.cache self.now.value.inner.cache result) }
+        ensures { IfSome self.now.saved (λ saved. AreNotedSince (cache_of saved.inner) (cache_of self.now.value.inner) result) }
     {
         self.hart.noted()
     }
@@ -301,6 +304,7 @@ fn apply_due(
     cycle: u64,
     out: &mut AskList,
 ) -> Result<(), OutOfMemory>
+    requires { cycle ≤ TOP }
     ensures hart { OnOk result (hart.new.value ≡ (applied_all base cycle 0 hart.old.value (filter (λ p. nat_le p.due cycle) inbox.old)).0) }
     ensures saved { hart.new.saved ≡ hart.old.saved }
     ensures inbox { OnOk result (inbox.new ≡ filter (λ p. nat_lt cycle p.due) inbox.old) }

@@ -27,7 +27,8 @@ fn word_in_line(address: u32) -> u32
 }
 
 impl Hart {
-    /// Accesses memory: alignment is checked first, then that the address is in memory.
+    /// Accesses memory: alignment is checked first, then that the address is in memory. An access that passes both touches
+    /// its line's set.
     #[inline(always)]
     #[tactic(auto, unfolding(crate::specs::Accesses::accessed))]
     pub fn access(&mut self, code: &Code, access: Access, address: u32, cycle: u64) -> Outcome
@@ -45,7 +46,9 @@ impl Hart {
             self.trap_outside(cycle, address);
             return Outcome::Rests;
         }
-        self.try_access(access, code.offset(address) / 16, address, cycle)
+        let line = code.offset(address) / 16;
+        self.touch(line, cycle);
+        self.try_access(access, line, address, cycle)
     }
 
     /// Looks the line of an access up, but for an SC whose address isn't the reservation, which fails.

@@ -1,5 +1,6 @@
 //! What posts do to a hart.
-ghost use Rattle.std.specs.Prelude.{◌≡◌};
+ghost use Rattle.std.specs.Prelude.{◌≡◌, ◌≤◌};
+ghost use Rattle.slack_base.specs.declared.bounds.TheConstants.{TOP};
 ghost use Rattle.timed_core.specs.Posts.{without_reservation, written_back, evicted, replied, retried, snooped, given_up, applied};
 ghost use Rattle.mesi_cache.specs.Caches.{line_in};
 ghost use Rattle.std.specs.Option.{option_map};
@@ -9,23 +10,30 @@ use mesi_cache::{Held, Victim};
 use slack_base::{Ask, Id, PostKind, Words, raised};
 
 impl Hart {
-    /// Applies a post about a line: what is asked for then, with this id.
+    /// Applies a post about a line: what is asked for then, with this id. A reply and a snoop touch the line's set, at the
+    /// id's cycle.
     #[tactic(auto, unfolding(crate::specs::Posts::applied))]
     pub fn apply(&mut self, kind: PostKind, base: u32, line: u32, id: Id) -> Option<Ask>
+        requires { id.cycle ≤ TOP }
         ensures after { self.new ≡ record self.old { value = (applied kind base line id self.old.value).0 } }
         ensures ask { result ≡ (applied kind base line id self.old.value).1 }
     {
         match kind {
-            PostKind::Reply { exclusive, words } => { self.reply(base, line, exclusive, words, id) }
+            PostKind::Reply { exclusive, words } => {
+                self.touch(line, id.cycle);
+                self.reply(base, line, exclusive, words, id)
+            }
             PostKind::Retry => {
                 self.retry();
                 None
             }
             PostKind::SnoopShare => {
+                self.touch(line, id.cycle);
                 let words = self.snoop(line, false);
                 Some(Ask::Flush { id, line, words })
             }
             PostKind::SnoopOwn => {
+                self.touch(line, id.cycle);
                 let words = self.give_up(base, line);
                 Some(Ask::Flush { id, line, words })
             }

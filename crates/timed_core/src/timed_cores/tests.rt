@@ -12,6 +12,7 @@ mod parts;
 mod posts;
 mod prepared;
 mod stretches;
+mod touches;
 mod victims;
 
 use super::*;

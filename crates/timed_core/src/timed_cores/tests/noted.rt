@@ -1,7 +1,7 @@
 //! A core with four sets of one line, marked at cycle 2, while it waits for line 256, which belongs to set 0. The reply of
-//! cycle 3 fills it, and the load hits; the store hits in cycle 4. The load of line 257, of set 1, misses in cycle 5 and
-//! hits in cycle 7. The word at 4112 is no instruction: the core ends in cycle 8. In cycle 9 another core takes line 256,
-//! and in cycle 10 line 258, of set 2.
+//! cycle 3 fills it, and the load hits; the store hits in cycle 4. The load of line 257, of set 1, misses in cycle 5, which
+//! touches the set, and hits in cycle 7. The word at 4112 is no instruction: the core ends in cycle 8. In cycle 9 another
+//! core takes line 256, and in cycle 10 line 258, of set 2.
 ghost use Rattle.std.specs.Prelude.{◌≡◌, IfOk, IsSome, None};
 
 use super::marks::{AT_MARK, Told, what_is_told};
@@ -58,7 +58,7 @@ fn the_rest(core: &TimedCore) -> More {
     }
 }
 
-fn four_sets() -> Result<Config, ConfigFault>
+pub fn four_sets() -> Result<Config, ConfigFault>
     ensures { IfOk result (λ c. (c.cores ≡ 1) × ((c.base ≡ 4096) × (c.memory ≡ 8192))) }
 {
     Config::checked(RawConfig {
@@ -88,7 +88,7 @@ fn first(alloc: Global) -> Result<TimedCore, Fail>
 }
 
 /// The cycles from one on, up to another.
-fn go_on(
+pub fn go_on(
     core: &mut TimedCore,
     code: &Code,
     alloc: Global,
@@ -143,7 +143,7 @@ const NOTED: [(u32, u64); 8] = [
     (3, 0),
     (4, 1),
     (5, 1),
-    (7, 1),
+    (6, 2),
     (8, 2),
     (10, 2),
     (11, 3),

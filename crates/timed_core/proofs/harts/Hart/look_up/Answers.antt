@@ -39,7 +39,7 @@ returns-clause-does c = λ base is number.
     sym (ap (option_map (λ f. f.held)) c.in-Some.is) ∙ c.find.ensures.held ∙ ap (λ h. option_map (λ l. l.held) (line_in h.value.cache line)) c.self.view_is in
     let same : c.in-Some.found.line ≡ line = c.in-Some.ensures.line in
     let word : option_map (λ l. word_of l.words (word_in_line c.args.address)) (line_in core.cache line) ≡ Some old =
-    sym (ap (λ w. option_map (λ l. word_of l.words w) (line_in c.self.inside.cache.value c.in-Some.found.line)) c.word_in_line.ensures.value
+    sym (ap (λ w. option_map (λ l. word_of l.words w) (line_in c.self.inside.cache.value.cache c.in-Some.found.line)) c.word_in_line.ensures.value
     ∙ ap (λ h. option_map (λ l. word_of l.words (word_in_line c.args.address)) (line_in h.value.cache c.in-Some.found.line)) c.self.view_is
     ∙ ap (λ n. option_map (λ l. word_of l.words (word_in_line c.args.address)) (line_in core.cache n)) same) ∙ c.word-old.ensures in
     let after : c.hit.new.self.value ≡ hit c.args.access base c.args.address old 1 core = c.hit.ensures.after base (same ∙ is) in

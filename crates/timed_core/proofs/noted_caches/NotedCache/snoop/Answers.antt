@@ -1,7 +1,7 @@
 use Rattle.std.proofs.Common.{◌∙◌, ap}
 use Rattle.slack_base.specs.Marks.{Marked}
-use Rattle.mesi_cache.specs.Caches.{CacheValue}
 use Rattle.timed_core.specs.Journals.{SetsValue, cache_then}
+use Rattle.timed_core.specs.TouchedCaches.{TouchedCache}
 use Rattle.timed_core.proofs.Marking.{then-changed}
 use Rattle.timed_core.proofs.noted_caches.NotedCache.snoop.Goals as goal
 
@@ -10,4 +10,4 @@ returns-clause-saved c =
     let inside = c.self.inside in
     ap (λ (s : SetsValue). cache_then inside.marked s) c.snoop.ensures.after
     ∙ then-changed c.args.wanted inside.sets c.prepare.new.self _ inside.marked c.prepare.ensures
-    ∙ ap (λ (v : Marked CacheValue). v.saved) c.self.view_is
+    ∙ ap (λ (v : Marked TouchedCache). v.saved) c.self.view_is

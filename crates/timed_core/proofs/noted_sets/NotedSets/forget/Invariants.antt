@@ -4,6 +4,7 @@ use Rattle.timed_core.proofs.noted_sets.NotedSets.forget.Given as goal
 abbrev pub invariant-loop : goal.invariant-loop
 invariant-loop l = record {
   cache : l.self.cache ≡ l.fn.self.cache;
+  touches : l.self.touches ≡ l.fn.self.touches;
   room : l.self.room ≡ l.fn.self.room;
 }
 

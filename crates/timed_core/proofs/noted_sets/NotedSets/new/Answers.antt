@@ -1,4 +1,4 @@
-use Rattle.std.proofs.Common.{◌≡◌, ◌∙◌, List, [], length, ap, rules}
+use Rattle.std.proofs.Common.{◌≡◌, ◌∙◌, ℕ, List, [], length, ap, sym, rules}
 use Rattle.std.proofs.lemmas.List.{length-replicate}
 use Rattle.mesi_cache.specs.declared.lines.CacheLine.{CacheLine}
 use Rattle.mesi_cache.specs.Caches.{CacheValue}
@@ -13,4 +13,6 @@ invariant_of-result c =
     let cache = c.in_ok-cache.cache in
     let sets : length cache.sets ≡ c.args.sets =
     ap (λ (v : CacheValue). length v.sets) c.in_ok-cache.ensures ∙ length-replicate c.args.sets nothing in
-    none-flagged c.in_ok-flags.flags.items c.args.sets (length cache.sets) cache.ways c.new-2.result.items (search rules) sets c.new-2.ensures.items
+    let touches : length c.in_ok-touches.touches.items ≡ length cache.sets =
+    ap (λ (ts : List ℕ). length ts) (search rules) ∙ length-replicate c.args.sets 0 ∙ sym sets in
+    (none-flagged c.in_ok-flags.flags.items c.args.sets (length cache.sets) cache.ways c.new-2.result.items (search rules) sets c.new-2.ensures.items, touches)

@@ -6,4 +6,4 @@ use Rattle.timed_core.proofs.noted_sets.NotedSets.noted.Goals as goal
 pub returns-clause-few : goal.returns-clause-few
 returns-clause-few c =
     subst (λ (v : SetsValue). c.len.result ≤ length v.cache.sets) c.self.view_is
-    (omega (arith, c.len.ensures, c.self.invariant.few, c.self.invariant.each, count_up-most c.self.inside.flags.items))
+    (omega (arith, c.len.ensures, c.self.invariant.0.few, c.self.invariant.0.each, count_up-most c.self.inside.flags.items))
