@@ -1,5 +1,5 @@
 -- Two asks of one channel in either order.
-use Rattle.std.proofs.Common.{◌≡◌, ◌≢◌, ◌∙◌, ℕ, ◌+◌, ◌/◌, zero, suc, true, false, cond, List, [], ◌∷◌, Option, None, Some, refl, sym, ap, arith}
+use Rattle.std.proofs.Common.{◌≡◌, ◌≢◌, ◌∙◌, ℕ, ◌+◌, ◌/◌, zero, suc, true, cond, List, [], ◌∷◌, Option, None, Some, refl, sym, ap, arith}
 use Rattle.std.specs.Prelude.{count_by, slice_get, slice_set, IfSome, IsTrue}
 use Rattle.std.proofs.lemmas.List.{set_comm}
 use Rattle.slack_base.specs.declared.messages.Ask.{Ask}
@@ -15,7 +15,7 @@ use Rattle.slot_calendar.specs.declared.slots.Slot.{Slot}
 use Rattle.slot_calendar.specs.Asks.{IsNext, clash_of, with_ask}
 use Rattle.slot_calendar.proofs.Ids.{above_back}
 use Rattle.slot_calendar.proofs.Swaps.{swapped}
-use Rattle.bus_model.specs.Channels.{BusValue, ChannelValue, AsBus, AsConsole, entry_of}
+use Rattle.bus_model.specs.Channels.{BusValue, AsBus, AsConsole, entry_of}
 use Rattle.bus_model.specs.ClosingLaws.{AreLinesApart, AllSwap, IsSwap}
 use Rattle.bus_model.specs.Serving.{for_bus, grant_of, granted, is_retry, on_entry, on_line, bus_served, served}
 

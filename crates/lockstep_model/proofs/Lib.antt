@@ -1,2 +1,1 @@
-pub mod Commuting
 mod FirstState

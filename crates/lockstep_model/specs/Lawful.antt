@@ -33,7 +33,8 @@ use Rattle.target_law.specs.Proper.{IsProperAsk, IsPostTo, IsCoreOf, IsChanOf}
 use Rattle.target_law.specs.Served.{join, inserted, served_all}
 use Rattle.violation_watch.proofs.Perms.{perm_of}
 use Rattle.lockstep_model.specs.Rules.{rules_of, owns_of, is_line, number_in}
-use Rattle.lockstep_model.proofs.Commuting.{inserts, closed_all, apart_above}
+use Rattle.lockstep_model.specs.Commuting.{inserts, closed_all, apart_above}
+use Rattle.lockstep_model.specs.Unseen.{unseen}
 
 -- the code and the configuration of one machine
 pub record IsMachine (config : RawConfig) (code : CodeValue) : Type 0 where
@@ -42,16 +43,21 @@ pub record IsMachine (config : RawConfig) (code : CodeValue) : Type 0 where
   pub memory : length code.bytes ≡ 16 * lines_of config
   pub slow : IsSlowMemory (delays_of config)
   pub soon : 1 ≤ lookahead_of (delays_of config)
+  pub sets : 1 ≤ config.sets
 
 some_buses : (buses : ℕ) → IsTrue (is_among buses (1 ∷ 2 ∷ 4 ∷ [])) → 1 ≤ buses
 some_buses buses among = grind (arith, nat_tests)
 
+some_sets : (sets : ℕ) → IsTrue (is_among sets (1 ∷ 2 ∷ 4 ∷ 8 ∷ 16 ∷ 32 ∷ 64 ∷ [])) → 1 ≤ sets
+some_sets sets among = grind (arith, nat_tests)
+
 -- what the bounds of a configuration say of its machine
-pub machine_from : (config : RawConfig) (code : CodeValue) → 1 ≤ config.cores → IsTrue (is_among config.buses (1 ∷ 2 ∷ 4 ∷ [])) → config.memory % 4096 ≡ 0 → length code.bytes ≡ config.memory
+pub machine_from : (config : RawConfig) (code : CodeValue) → 1 ≤ config.cores → IsTrue (is_among config.buses (1 ∷ 2 ∷ 4 ∷ [])) → IsTrue (is_among config.sets (1 ∷ 2 ∷ 4 ∷ 8 ∷ 16 ∷ 32 ∷ 64 ∷ [])) → config.memory % 4096 ≡ 0 → length code.bytes ≡ config.memory
     → config.snoop + 1 ≤ config.memory_delay → 1 ≤ config.snoop → 1 ≤ config.transfer → IsMachine config code
-machine_from config code cores buses pages whole late snoop transfer = record {
+machine_from config code cores buses sets pages whole late snoop transfer = record {
   cores = cores;
   buses = some_buses config.buses buses;
+  sets = some_sets config.sets sets;
   memory = omega arith;
   slow = omega arith;
   soon = omega arith;
@@ -208,6 +214,5 @@ module _ (config : RawConfig) (code : CodeValue) (machine : IsMachine config cod
     closes_once = closes_once;
     commutes = commutes;
     reopens = reopens;
-    -- nothing is known of what a core touched, so no late put is harmless
-    unseen = λ place due k core taken p late. let top = late.top in let some = late.some in let low = late.untouched in absurd (omega arith);
+    unseen = unseen config code machine.sets;
   }

@@ -125,7 +125,7 @@ impl Target for RvTarget {
         chan.keep();
     }
 
-    ghost laws = { λ t. lawful (numbers_of t.config) t.code (machine_from (numbers_of t.config) t.code t.config.cores_in_bounds.0 t.config.buses_in_bounds t.config.memory_in_bounds.0 t.whole t.config.memory_delay_in_bounds.0 t.config.snoop_in_bounds.0 t.config.transfer_in_bounds.0) };
+    ghost laws = { λ t. lawful (numbers_of t.config) t.code (machine_from (numbers_of t.config) t.code t.config.cores_in_bounds.0 t.config.buses_in_bounds t.config.sets_in_bounds t.config.memory_in_bounds.0 t.whole t.config.memory_delay_in_bounds.0 t.config.snoop_in_bounds.0 t.config.transfer_in_bounds.0) };
 }
 
 impl RvTarget {

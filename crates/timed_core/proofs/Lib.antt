@@ -7,6 +7,7 @@ pub mod OwnCaches
 pub mod InstructionSteps
 pub mod Keeping
 pub mod Lawful
+pub mod late
 pub mod Marking
 pub mod PostSteps
 pub mod Reaching

@@ -4,6 +4,7 @@ pub mod Cores
 pub mod Effects
 pub mod Journals
 pub mod Kept
+pub mod LateLaws
 pub mod Laws
 pub mod Noting
 pub mod Outcomes

@@ -1,4 +1,5 @@
 //! What is true of every core and every tick, whatever the code.
+ghost use Rattle.timed_core.specs.LateLaws.{AllLate};
 ghost use Rattle.timed_core.specs.Laws.{AllPuts, AllStarts, AllTicks};
 
 /// The law of ticks. x0 stays 0; the core keeps its number and its cache the sets and ways of the configuration; its
@@ -16,4 +17,10 @@ pub fn law_of_puts()
 /// Each core of a configuration is sound before the first cycle: its cache has the configuration's sets and ways.
 pub fn law_of_starts()
     ensures { AllStarts }
+{}
+
+/// The law of late Invalidates. An Invalidate whose set the core touches no more in a tick is as if it came after the
+/// tick, and behind posts that don't touch its set as if it had come before the tick.
+pub fn law_of_late_invalidates()
+    ensures { AllLate }
 {}
