@@ -13,6 +13,7 @@ use std::thread::Threads;
 mod bounds;
 mod calls;
 mod checks;
+mod commuting;
 mod cycles;
 mod drifts;
 mod executables;

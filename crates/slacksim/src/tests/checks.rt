@@ -7,7 +7,7 @@ use std::test::Fail;
 const ALL_ZERO: Answer = Answer::Done { all_zero: true };
 
 /// Two cores load a word, and core 1 stores to it. Both exit with 0.
-const STORES_AFTER_LOAD: &[u8] = b"lui x8, 1
+pub(super) const STORES_AFTER_LOAD: &[u8] = b"lui x8, 1
         lw x5, 0(x8)
         beq x10, x0, done
         sw x8, 0(x8)
