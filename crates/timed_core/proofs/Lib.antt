@@ -13,3 +13,4 @@ pub mod Reaching
 pub mod Restoring
 pub mod Steps
 pub mod Stretches
+pub mod Touching
