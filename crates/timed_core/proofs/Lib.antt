@@ -14,3 +14,4 @@ pub mod Reaching
 pub mod Restoring
 pub mod Steps
 pub mod Stretches
+pub mod Touching

@@ -14,4 +14,5 @@ pub mod Stretches
 pub mod Ticks
 pub mod TouchedCaches
 pub mod Touches
+pub mod Touching
 pub mod Views

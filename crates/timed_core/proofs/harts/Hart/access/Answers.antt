@@ -21,7 +21,7 @@ returns-clause-does c = λ number.
     let touched : c.touch.new.self.value ≡ touched_at c.args.cycle (line_number code.base address) core =
     ap (λ (h : NotedHart). h.value) c.touch.ensures ∙ ap (λ n. touched_at c.args.cycle n core) line in
     let does : DoesAt (λ i. tried c.args.access code.base address 1 i (touched_at c.args.cycle (line_number code.base address) core)) c.args.cycle
-        (touched_at c.args.cycle (line_number code.base address) core) c.try_access.new.self.value c.try_access.result =
+    (touched_at c.args.cycle (line_number code.base address) core) c.try_access.new.self.value c.try_access.result =
     subst (λ (h : HartValue). DoesAt (λ i. tried c.args.access code.base address 1 i h) c.args.cycle h c.try_access.new.self.value c.try_access.result)
     touched (c.try_access.ensures.does code.base line) in
     subst (λ out. Does out id c.try_access.new.self.value c.try_access.result) (sym (is_tried code c.args.access address id core aligned inside)) (does number)

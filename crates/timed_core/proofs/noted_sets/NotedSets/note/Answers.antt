@@ -30,11 +30,13 @@ push_reserved-requires c =
 
 pub invariant_of-self : goal.invariant_of-self
 invariant_of-self c =
-    let inside = c.self.inside in
-    (subst (λ (js : List SetNote). IsFlagged (slice_set inside.flags.items c.set_of-set.result true) (length inside.cache.sets) inside.cache.ways js)
-    (sym c.push_reserved.ensures.items)
-    (flagged-push inside.flags.items (length inside.cache.sets) inside.cache.ways inside.journal.items (noted_now c) c.set_of-set.result c.self.invariant.0 refl
-    c.set_of-set.ensures.within (c.set_of-set.ensures.within, c.set_copy-copy.ensures.fits inside.cache (record { number_of_sets = refl; number_of_ways = refl })) (low c)), c.self.invariant.1)
+    let inside = c.self.inside in (
+      subst (λ (js : List SetNote). IsFlagged (slice_set inside.flags.items c.set_of-set.result true) (length inside.cache.sets) inside.cache.ways js)
+          (sym c.push_reserved.ensures.items)
+          (flagged-push inside.flags.items (length inside.cache.sets) inside.cache.ways inside.journal.items (noted_now c) c.set_of-set.result c.self.invariant.0 refl
+          c.set_of-set.ensures.within (c.set_of-set.ensures.within, c.set_copy-copy.ensures.fits inside.cache (record { number_of_sets = refl; number_of_ways = refl })) (low c)),
+      c.self.invariant.1,
+    )
 
 pub returns-clause-kept : goal.returns-clause-kept
 returns-clause-kept c =
