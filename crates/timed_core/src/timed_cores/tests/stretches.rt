@@ -69,19 +69,24 @@ fn in_pieces(rt: &impl Abort, alloc: Global, words: &[u32], post: Post) -> Resul
     })
 }
 
+/// Whether two cores tell the same, and sent the same.
+fn are_same(a: &Seen, b: &Seen) -> bool {
+    what_is_told(&a.core) == what_is_told(&b.core) && a.asks.as_slice() == b.asks.as_slice()
+}
+
+/// Whether the first piece of a case ends where it is to, and both pieces make what as many ticks make.
+fn leaps(rt: &impl Abort, alloc: Global, case: &Case) -> Result<bool, Fail> {
+    let (_, words, due, kind, next) = case;
+    let post = post(*due, 256, *kind);
+    let pieces = in_pieces(rt, alloc, words, post)?;
+    let seen = run(rt, alloc, words, &[post], END)?;
+    Ok(pieces.next == *next && are_same(&pieces.seen, &seen))
+}
+
 #[test]
 fn leaps_are_ticks(rt: HostRuntime) -> Result<(), Fail> {
-    for (text, words, due, kind, next) in &CASES {
-        let post = post(*due, 256, *kind);
-        let pieces = in_pieces(&rt, rt.alloc(), words, post)?;
-        let seen = run(&rt, rt.alloc(), words, &[post], END)?;
-        assert_eq!(rt; pieces.next, *next, "{text}");
-        assert_eq!(rt;
-            what_is_told(&pieces.seen.core),
-            what_is_told(&seen.core),
-            "{text}"
-        );
-        assert_eq!(rt; pieces.seen.asks.as_slice(), seen.asks.as_slice(), "{text}");
+    for case in &CASES {
+        assert!(rt; leaps(&rt, rt.alloc(), case)?, "{}", case.0);
     }
     Ok(())
 }
