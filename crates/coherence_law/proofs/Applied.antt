@@ -22,6 +22,7 @@ use Rattle.status_map.specs.declared.views.Delays.{Delays}
 use Rattle.timed_core.specs.Accesses.{held_in}
 use Rattle.timed_core.specs.Cores.{HartValue}
 use Rattle.timed_core.specs.Posts.{applied, replied, evicted, is_modified, retried, snooped, given_up, without_reservation, flush_of}
+use Rattle.timed_core.specs.Touches.{touched_at}
 use Rattle.timed_core.specs.Laws.{HoldsBelow}
 use Rattle.coherence_law.specs.Lines.{Want, Nothing, Filling, Retrying, Part, changed}
 use Rattle.coherence_law.specs.Invariant.{Invariant}
@@ -303,7 +304,7 @@ module _ (lines t : ℕ) (asked : ℕ → ℕ) (inner : ℕ → HartValue) (base
         )
 
     abbrev after_fill : HartValue
-    after_fill = record core { cache = fill_line core.cache new; waiting = false }
+    after_fill = record (touched_at id.cycle p.line core) { cache = fill_line core.cache new; waiting = false }
 
     evicted_lines : (code_base : ℕ) (victim : Option CacheLine) → victim_of core.cache new ≡ victim
         → AreStepped lines t asked (upd c (evicted code_base victim id after_fill).0 inner) (upd c rest base) sent entry (evicted code_base victim id after_fill).1
@@ -314,7 +315,10 @@ module _ (lines t : ℕ) (asked : ℕ → ℕ) (inner : ℕ → HartValue) (base
       | inr clean ↦ rw clean (clean_fell (without_reservation code_base v.line after_fill) refl refl v fell clean)
     ]
 
-    replied_lines : (code_base : ℕ) → AreStepped lines t asked (upd c (replied code_base p.line exclusive words id core).0 inner) (upd c rest base) sent entry (replied code_base p.line exclusive words id core).1
+    abbrev replied_core : ℕ → HartValue × Option Ask
+    replied_core code_base = replied code_base p.line exclusive words id (touched_at id.cycle p.line core)
+
+    replied_lines : (code_base : ℕ) → AreStepped lines t asked (upd c (replied_core code_base).0 inner) (upd c rest base) sent entry (replied_core code_base).1
     unfolding replied
     replied_lines code_base = evicted_lines code_base (victim_of core.cache new) refl
 
@@ -323,11 +327,11 @@ module _ (lines t : ℕ) (asked : ℕ → ℕ) (inner : ℕ → HartValue) (base
   applied_as code_base (Reply exclusive words) is = replied_lines exclusive words is code_base
   applied_as code_base Retry is = retried_lines is
   applied_as code_base SnoopShare is =
-      snooped_lines false (snooped p.line false core) refl refl
+      snooped_lines false (snooped p.line false (touched_at id.cycle p.line core)) refl refl
       (λ l within e. (take_snoop l p left ((world l within).line.parts c) e (p.due, false) (rw is refl) (rw is refl) (rw is refl) (waits l within)).0)
       (λ l within e. (take_snoop l p left ((world l within).line.parts c) e (p.due, false) (rw is refl) (rw is refl) (rw is refl) (waits l within)).1)
   applied_as code_base SnoopOwn is =
-      snooped_lines true (given_up code_base p.line core) refl refl
+      snooped_lines true (given_up code_base p.line (touched_at id.cycle p.line core)) refl refl
       (λ l within e. (take_snoop l p left ((world l within).line.parts c) e (p.due, true) (rw is refl) (rw is refl) (rw is refl) (waits l within)).0)
       (λ l within e. (take_snoop l p left ((world l within).line.parts c) e (p.due, true) (rw is refl) (rw is refl) (rw is refl) (waits l within)).1)
   applied_as code_base Invalidate is = invalidated_lines code_base is

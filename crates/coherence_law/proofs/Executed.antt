@@ -24,6 +24,7 @@ use Rattle.timed_core.specs.Accesses.{is_aligned, hits, word_in_line, held_in, h
 use Rattle.timed_core.specs.Code.{CodeValue, is_in_memory, word_at}
 use Rattle.timed_core.specs.Cores.{HartValue, is_running, line_number, gives, goes_on, completed, trapped}
 use Rattle.timed_core.specs.Effects.{effect_of, cost_of}
+use Rattle.timed_core.specs.Touches.{touched_at}
 use Rattle.timed_core.specs.Ticks.{called, performed, decoded, fetched, stepped}
 use Rattle.timed_core.specs.declared.accesses.Access.{Access}
 use Rattle.timed_core.specs.declared.accesses.Access.TheVariants.{Load, Store, LoadReserved, StoreConditional, Amo}
@@ -84,12 +85,20 @@ line_below code lines address whole inside =
     omega arith
 
 module _ (lines t : ℕ) (asked : ℕ → ℕ) (inner : ℕ → HartValue) (base : ℕ → List Post) (sent : List Post) (entry : ℕ → EntryView)
-    (c : ℕ) (world : AreLines lines t asked inner base sent entry) (cache : IsCache (inner c).cache) (id : Id) (mine : id.core ≡ c) (low : c < MOST_CORES) where
-  abbrev core : HartValue
-  core = inner c
-
+    (c : ℕ) (world : AreLines lines t asked inner base sent entry) (core : HartValue) (same_cache : core.cache ≡ (inner c).cache) (same_waiting : core.waiting ≡ (inner c).waiting)
+    (cache : IsCache core.cache) (id : Id) (mine : id.core ≡ c) (low : c < MOST_CORES) where
   abbrev Becomes : HartValue × Option Ask → Type 0
   Becomes out = IsStepped lines t (upd c out.0 inner) base sent entry out.0 out.1
+
+  -- what the core has of a line: its cache and its waiting are those that the machine has of it
+  own_part : (l : ℕ) (within : l < lines) → IsPartOf l (asked c) core (pending base sent c) ((world l within).line.parts c)
+  own_part l within =
+      let part = (world l within).parts c in
+      record {
+        held = part.held ∙ ap (λ k. held_in k l) (sym same_cache);
+        wants = part.wants ∙ ap (λ b. b && (asked c == l)) (sym same_waiting);
+        posts = part.posts;
+      }
 
   -- the core has the same of each line
   same_lines : (after : HartValue) → ((l : ℕ) → held_in after.cache l ≡ held_in core.cache l) → after.waiting ≡ core.waiting → AreLines lines t asked (upd c after inner) base sent entry
@@ -99,7 +108,7 @@ module _ (lines t : ℕ) (asked : ℕ → ℕ) (inner : ℕ → HartValue) (base
         line = x.line;
         entry = x.entry;
         parts = core_parts l c asked asked inner base sent after (λ k n. refl) x.line.parts x.line.parts (λ k n. refl) x.parts
-            (record { held = (x.parts c).held ∙ sym (held l); wants = (x.parts c).wants ∙ ap (λ b. b && (asked c == l)) (sym waiting); posts = (x.parts c).posts });
+            (record { held = (own_part l within).held ∙ sym (held l); wants = (own_part l within).wants ∙ ap (λ b. b && (asked c == l)) (sym waiting); posts = (own_part l within).posts });
         kept = x.kept;
       }
 
@@ -121,7 +130,7 @@ module _ (lines t : ℕ) (asked : ℕ → ℕ) (inner : ℕ → HartValue) (base
       | inl e ↦
           let x = world l within in
           let words = with_word h.words place value in
-          let was : (x.line.parts c).held ≡ Some h = (x.parts c).held ∙ ap (held_in core.cache) e ∙ held in
+          let was : (x.line.parts c).held ≡ Some h = (own_part l within).held ∙ ap (held_in core.cache) e ∙ held in
           record {
             line = with_part c (written_part words (x.line.parts c)) x.line;
             entry = x.entry;
@@ -129,8 +138,8 @@ module _ (lines t : ℕ) (asked : ℕ → ℕ) (inner : ℕ → HartValue) (base
                 (record {
                   held = sym (ap (λ k. held_in k l) its_cache ∙ subst (λ j. held_in (write_line core.cache line place value) j ≡ Some (record { held = M; words = words })) (sym e)
                       (write_same core.cache cache line place value ∙ some_held (line_in core.cache line) h place value held));
-                  wants = (x.parts c).wants ∙ ap (λ b. b && (asked c == l)) (sym waiting);
-                  posts = let g = (x.parts c).posts in record { answer = g.answer; invalidate = g.invalidate; snoop = g.snoop };
+                  wants = (own_part l within).wants ∙ ap (λ b. b && (asked c == l)) (sym waiting);
+                  posts = let g = (own_part l within).posts in record { answer = g.answer; invalidate = g.invalidate; snoop = g.snoop };
                 });
             kept = writes t c h words x.line was may x.kept;
           }
@@ -141,9 +150,9 @@ module _ (lines t : ℕ) (asked : ℕ → ℕ) (inner : ℕ → HartValue) (base
             entry = x.entry;
             parts = core_parts l c asked asked inner base sent after (λ k n. refl) x.line.parts x.line.parts (λ k n. refl) x.parts
                 (record {
-                  held = (x.parts c).held ∙ sym (ap (λ k. held_in k l) its_cache ∙ write_other core.cache cache line place value l n);
-                  wants = (x.parts c).wants ∙ ap (λ b. b && (asked c == l)) (sym waiting);
-                  posts = (x.parts c).posts;
+                  held = (own_part l within).held ∙ sym (ap (λ k. held_in k l) its_cache ∙ write_other core.cache cache line place value l n);
+                  wants = (own_part l within).wants ∙ ap (λ b. b && (asked c == l)) (sym waiting);
+                  posts = (own_part l within).posts;
                 });
             kept = x.kept;
           }
@@ -156,7 +165,7 @@ module _ (lines t : ℕ) (asked : ℕ → ℕ) (inner : ℕ → HartValue) (base
     asked_then = upd c line asked
 
     unwanted : (l : ℕ) (within : l < lines) → is_wanting ((world l within).line.parts c).want ≡ false
-    unwanted l within = ((world l within).parts c).wants ∙ ap (λ b. b && (asked c == l)) idle
+    unwanted l within = (own_part l within).wants ∙ ap (λ b. b && (asked c == l)) idle
 
     asking : (ask : Ask) (l : ℕ) → l < lines → ((d : Delays) (grant : ℕ) → t ≤ grant → d.snoop < d.memory → (within : line < lines) → IsServed t d grant ask (with_part c (asking_part ((world line within).line.parts c)) (world line within).line))
         → (d : Delays) (grant : ℕ) → t ≤ grant → d.snoop < d.memory → IsBefore t d grant ask line l asked_then (upd c after inner) base sent (entry l)
@@ -168,9 +177,9 @@ module _ (lines t : ℕ) (asked : ℕ → ℕ) (inner : ℕ → HartValue) (base
             entry = x.entry;
             parts = core_changed l c asked asked_then inner base sent after (upd_off c line asked) x.line.parts (asking_part (x.line.parts c)) x.parts
                 (record {
-                  held = (x.parts c).held ∙ ap (λ k. held_in k l) (sym its_cache);
+                  held = (own_part l within).held ∙ ap (λ k. held_in k l) (sym its_cache);
                   wants = sym (ap (λ b. b && (asked_then c == l)) waits ∙ ap (λ a. a == l) (upd_at c line asked) ∙ eq-eqb line l (sym e));
-                  posts = let g = (x.parts c).posts in record { answer = subst (λ w. Picks (answer_of l) (pending base sent c) (answer w)) (nothing_wanted (x.line.parts c).want (unwanted l within)) g.answer; invalidate = g.invalidate; snoop = g.snoop };
+                  posts = let g = (own_part l within).posts in record { answer = subst (λ w. Picks (answer_of l) (pending base sent c) (answer w)) (nothing_wanted (x.line.parts c).want (unwanted l within)) g.answer; invalidate = g.invalidate; snoop = g.snoop };
                 });
             kept = λ n. absurd (n e);
             served = λ _. subst (λ j. (within : j < lines) → IsServed t d grant ask (with_part c (asking_part ((world j within).line.parts c)) (world j within).line)) (sym e) (served d grant soon short) within;
@@ -182,9 +191,9 @@ module _ (lines t : ℕ) (asked : ℕ → ℕ) (inner : ℕ → HartValue) (base
             entry = x.entry;
             parts = core_parts l c asked asked_then inner base sent after (upd_off c line asked) x.line.parts x.line.parts (λ k n. refl) x.parts
                 (record {
-                  held = (x.parts c).held ∙ ap (λ k. held_in k l) (sym its_cache);
+                  held = (own_part l within).held ∙ ap (λ k. held_in k l) (sym its_cache);
                   wants = unwanted l within ∙ sym (ap (λ b. b && (asked_then c == l)) waits ∙ ap (λ a. a == l) (upd_at c line asked) ∙ ne_eqb line l (λ e. n (sym e)));
-                  posts = (x.parts c).posts;
+                  posts = (own_part l within).posts;
                 });
             kept = λ _. x.kept;
             served = λ e. absurd (n e);
@@ -201,7 +210,7 @@ module _ (lines t : ℕ) (asked : ℕ → ℕ) (inner : ℕ → HartValue) (base
       stepped = (
         inside,
         λ d grant soon short l within. asking (Read id line) l within
-            (λ d grant soon short within. reads t c grant line d id (world line within).line (((world line within).parts c).held ∙ none) (want_nothing within) soon mine low (world line within).kept)
+            (λ d grant soon short within. reads t c grant line d id (world line within).line ((own_part line within).held ∙ none) (want_nothing within) soon mine low (world line within).kept)
             d grant soon short,
       );
     }
@@ -213,7 +222,7 @@ module _ (lines t : ℕ) (asked : ℕ → ℕ) (inner : ℕ → HartValue) (base
       stepped = (
         inside,
         λ d grant soon short l within. asking (ReadOwn id line) l within
-            (λ d grant soon short within. owns_line t c grant line d id (world line within).line (subst IsUnwritable (sym ((world line within).parts c).held) unwritable) (want_nothing within) soon mine low short (world line within).kept)
+            (λ d grant soon short within. owns_line t c grant line d id (world line within).line (subst IsUnwritable (sym (own_part line within).held) unwritable) (want_nothing within) soon mine low short (world line within).kept)
             d grant soon short,
       );
     }
@@ -267,60 +276,73 @@ module _ (lines t : ℕ) (asked : ℕ → ℕ) (inner : ℕ → HartValue) (base
     ]
     tried_lines (Amo op rd operand) = looked_up_lines (Amo op rd operand)
 
+-- an instruction of the core as the machine has it
+module _ (lines t : ℕ) (asked : ℕ → ℕ) (inner : ℕ → HartValue) (base : ℕ → List Post) (sent : List Post) (entry : ℕ → EntryView)
+    (c : ℕ) (world : AreLines lines t asked inner base sent entry) (cache : IsCache (inner c).cache) (id : Id) (mine : id.core ≡ c) (low : c < MOST_CORES) where
+  abbrev hart : HartValue
+  hart = inner c
+
+  abbrev Leads : HartValue × Option Ask → Type 0
+  Leads out = IsStepped lines t (upd c out.0 inner) base sent entry out.0 out.1
+
+  quietly : (after : HartValue) → after.cache ≡ hart.cache → after.waiting ≡ hart.waiting → Leads (after, None)
+  quietly = quiet lines t asked inner base sent entry c world hart refl refl cache id mine low
+
   module _ (code : CodeValue) (whole : length code.bytes ≡ 16 * lines) where
-    accessed_lines : (access : Access) (address cost : ℕ) → core.waiting ≡ false → Becomes (accessed code access address cost id core)
+    accessed_lines : (access : Access) (address cost : ℕ) → hart.waiting ≡ false → Leads (accessed code access address cost id hart)
     unfolding accessed
     accessed_lines access address cost idle = elim (cases_Bool (is_aligned access address)) [
       | inl y ↦ elim (cases_Bool (is_in_memory code address)) [
-        | inl z ↦ rw (y, z) (tried_lines code.base address cost idle (line_below code lines address whole z) access)
-        | inr z ↦ rw (y, z) (quiet (trapped core id.cycle (Outside address)) refl refl)
+        | inl z ↦ rw (y, z) (tried_lines lines t asked inner base sent entry c world (touched_at id.cycle (line_number code.base address) hart) refl refl cache id mine low
+            code.base address cost idle (line_below code lines address whole z) access)
+        | inr z ↦ rw (y, z) (quietly (trapped hart id.cycle (Outside address)) refl refl)
       ]
-      | inr n ↦ rw n (quiet (trapped core id.cycle (Misaligned address)) refl refl)
+      | inr n ↦ rw n (quietly (trapped hart id.cycle (Misaligned address)) refl refl)
     ]
 
-    called_lines : (cost : ℕ) → Becomes (called cost id core)
+    called_lines : (cost : ℕ) → Leads (called cost id hart)
     unfolding called
-    called_lines cost = elim (cases_Bool (get_or core.registers 17 0 == 1)) [
-      | inl y ↦ rw y (puts (goes_on cost core) _ refl refl)
-      | inr n ↦ elim (cases_Bool (get_or core.registers 17 0 == 93)) [
-        | inl y ↦ rw (n, y) (quiet _ refl refl)
-        | inr m ↦ rw (n, m) (quiet (trapped core id.cycle _) refl refl)
+    called_lines cost = elim (cases_Bool (get_or hart.registers 17 0 == 1)) [
+      | inl y ↦ rw y (puts lines t asked inner base sent entry c world hart refl refl cache id mine low (goes_on cost hart) _ refl refl)
+      | inr n ↦ elim (cases_Bool (get_or hart.registers 17 0 == 93)) [
+        | inl y ↦ rw (n, y) (quietly _ refl refl)
+        | inr m ↦ rw (n, m) (quietly (trapped hart id.cycle _) refl refl)
       ]
     ]
 
-    performed_lines : (effect : Effect) (cost : ℕ) → core.waiting ≡ false → Becomes (performed code effect cost id core)
+    performed_lines : (effect : Effect) (cost : ℕ) → hart.waiting ≡ false → Leads (performed code effect cost id hart)
     unfolding performed
-    performed_lines (Write rd value) cost idle = quiet (gives rd value cost core) refl refl
-    performed_lines (Jump rd target) cost idle = quiet _ refl refl
-    performed_lines (Branch target) cost idle = quiet (completed core core.registers target cost) refl refl
-    performed_lines Pass cost idle = quiet (goes_on cost core) refl refl
+    performed_lines (Write rd value) cost idle = quietly (gives rd value cost hart) refl refl
+    performed_lines (Jump rd target) cost idle = quietly _ refl refl
+    performed_lines (Branch target) cost idle = quietly (completed hart hart.registers target cost) refl refl
+    performed_lines Pass cost idle = quietly (goes_on cost hart) refl refl
     performed_lines (Memory address access) cost idle = accessed_lines access address cost idle
-    performed_lines (Stop trap) cost idle = quiet (trapped core id.cycle trap) refl refl
+    performed_lines (Stop trap) cost idle = quietly (trapped hart id.cycle trap) refl refl
     performed_lines Call cost idle = called_lines cost
 
-    decoded_lines : (instr : Option Instr) (bits : ℕ) → core.waiting ≡ false → Becomes (decoded code instr bits id core)
+    decoded_lines : (instr : Option Instr) (bits : ℕ) → hart.waiting ≡ false → Leads (decoded code instr bits id hart)
     unfolding decoded
-    decoded_lines None bits idle = quiet (trapped core id.cycle (Illegal bits)) refl refl
-    decoded_lines (Some instr) bits idle = performed_lines (effect_of instr core.registers core.pc) (cost_of instr) idle
+    decoded_lines None bits idle = quietly (trapped hart id.cycle (Illegal bits)) refl refl
+    decoded_lines (Some instr) bits idle = performed_lines (effect_of instr hart.registers hart.pc) (cost_of instr) idle
 
-    fetched_lines : (bits : Option ℕ) → core.waiting ≡ false → Becomes (fetched code bits id core)
+    fetched_lines : (bits : Option ℕ) → hart.waiting ≡ false → Leads (fetched code bits id hart)
     unfolding fetched
-    fetched_lines None idle = quiet (trapped core id.cycle (Fetch core.pc)) refl refl
+    fetched_lines None idle = quietly (trapped hart id.cycle (Fetch hart.pc)) refl refl
     fetched_lines (Some bits) idle = decoded_lines (instr_of bits) bits idle
 
     abbrev waited : HartValue
-    waited = record core { counts = record core.counts { waits = raised core.counts.waits } }
+    waited = record hart { counts = record hart.counts { waits = raised hart.counts.waits } }
 
-    waiting_lines : (waiting : Bool) → core.waiting ≡ waiting → Becomes (cond waiting (waited, None) (fetched code (word_at code core.pc) id core))
-    waiting_lines true is = quiet waited refl refl
-    waiting_lines false is = fetched_lines (word_at code core.pc) is
+    waiting_lines : (waiting : Bool) → hart.waiting ≡ waiting → Leads (cond waiting (waited, None) (fetched code (word_at code hart.pc) id hart))
+    waiting_lines true is = quietly waited refl refl
+    waiting_lines false is = fetched_lines (word_at code hart.pc) is
 
-    pub stepped_lines : Becomes (stepped code id core)
+    pub stepped_lines : Leads (stepped code id hart)
     unfolding stepped
-    stepped_lines = elim (cases_Bool (is_running core.ended)) [
-      | inl running ↦ elim (cases_Bool (core.busy == 0)) [
-        | inl free ↦ rw (running, free) (waiting_lines core.waiting refl)
-        | inr busy ↦ rw (running, busy) (quiet _ refl refl)
+    stepped_lines = elim (cases_Bool (is_running hart.ended)) [
+      | inl running ↦ elim (cases_Bool (hart.busy == 0)) [
+        | inl free ↦ rw (running, free) (waiting_lines hart.waiting refl)
+        | inr busy ↦ rw (running, busy) (quietly _ refl refl)
       ]
-      | inr ended ↦ rw ended (quiet core refl refl)
+      | inr ended ↦ rw ended (quietly hart refl refl)
     ]
