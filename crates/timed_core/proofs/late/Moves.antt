@@ -7,7 +7,7 @@ use Rattle.timed_core.proofs.late.Between.{put_between}
 use Rattle.timed_core.proofs.late.Waiting.{soon_value, late_value}
 use Rattle.timed_core.proofs.late.TouchesLeft.{posts_touches}
 use Rattle.timed_core.proofs.late.SetCount.{count_of}
-use Rattle.timed_core.proofs.late.Touching.{AreApart, apart_last, posts_back}
+use Rattle.timed_core.proofs.late.Rising.{AreApart, apart_last, posts_back}
 use Rattle.timed_core.proofs.late.Ticks.{late_tick, soon_tick}
 use Rattle.timed_core.proofs.late.Quiet.{some_sets, sound_fine, tick_back, quiet_tick}
 

@@ -12,7 +12,7 @@ use Rattle.timed_core.proofs.late.TouchesLeft.{tick_touches}
 use Rattle.timed_core.proofs.late.Places.{IsApart}
 use Rattle.timed_core.proofs.late.GivenUp.{less}
 use Rattle.timed_core.proofs.late.SetCount.{count_of, tick_count}
-use Rattle.timed_core.proofs.late.Touching.{AreApart, touch_some_length, touch_posts_length, some_back, posts_back}
+use Rattle.timed_core.proofs.late.Rising.{AreApart, touch_some_length, touch_posts_length, some_back, posts_back}
 use Rattle.timed_core.proofs.late.Ticks.{Less, tick_passes}
 
 -- one touch for each set, and there is a set

@@ -13,7 +13,7 @@ use Rattle.timed_core.proofs.late.Places.{IsApart}
 use Rattle.timed_core.proofs.late.GivenUp.{less, applied_passes}
 use Rattle.timed_core.proofs.late.Steps.{stepped_passes}
 use Rattle.timed_core.proofs.late.SetCount.{count_of, applied_count, applied_all_count}
-use Rattle.timed_core.proofs.late.Touching.{AreApart}
+use Rattle.timed_core.proofs.late.Rising.{AreApart}
 
 pub invalidate_apart : (n m line : ℕ) (kind : PostKind) → kind ≡ Invalidate → IsApart n (posted kind m) line
 invalidate_apart n m line kind h = subst (λ k. IsApart n (posted k m) line) (sym h) tt

@@ -19,7 +19,7 @@ use Rattle.timed_core.proofs.late.Quiet.{IsFine, some_sets, tick_back, tick_fine
 use Rattle.timed_core.proofs.late.SetCount.{count_of}
 use Rattle.timed_core.proofs.late.Ticks.{invalidate_apart, late_tick, soon_tick}
 use Rattle.timed_core.proofs.late.Touched.{line_of_step}
-use Rattle.timed_core.proofs.late.Touching.{AreApart, apart_last}
+use Rattle.timed_core.proofs.late.Rising.{AreApart, apart_last}
 
 due_is : (due t : ℕ) → due ≤ t → nat_le due t ≡ true
 due_is due t h = grind (arith, nat_tests)
