@@ -3,6 +3,8 @@
 #![tactic(auto)]
 
 #[cfg(test)]
+mod late;
+#[cfg(test)]
 mod machines;
 #[cfg(test)]
 mod marks;
