@@ -118,9 +118,21 @@ def steps_in_turn(rng, cores):
         yield from (step for core in others for step in [("t", core, 1), ("s", core, 1), ("p", core, 1)])
 
 
+def steps_nearly_in_turn(rng, cores):
+    """Cores go on in bursts; asks are served and posts are taken soon, but some cores take them late: so some overtake others
+    that are not in their way."""
+    late, burst = rng.sample(range(cores), rng.randrange(cores)), rng.choice([1, 2, 4, 8])
+    for _ in range(rng.randrange(20, 120)):
+        core = rng.randrange(cores)
+        yield from (step for _ in range(rng.randrange(1, burst + 1)) for step in [("t", core, 1), ("s", core, 1)])
+        for other in range(cores):
+            if rng.random() < (0.2 if other in late else 0.9):
+                yield "p", other, rng.choice([1, 2])
+
+
 def random_steps(rng, cores):
     """Steps, as the command line has them and one by one."""
-    items = list(rng.choice([any_steps, steps_in_turn])(rng, cores))
+    items = list(rng.choice([any_steps, steps_in_turn, steps_nearly_in_turn])(rng, cores))
     text = ",".join(f"{kind}{core}x{count}" if count > 1 else f"{kind}{core}" for kind, core, count in items)
     return text, [(kind, core) for kind, core, count in items for _ in range(count)]
 
