@@ -21,15 +21,15 @@ class World:
     def serve(self, core):
         if core < len(self.clocks) and self.asks[core]:
             ask = self.asks[core].pop(0)
-            self.served.append(ask)
+            self.served.append((ask, self.machine.channel(ask).clash(ask["id"])))
             for post in self.machine.serve(ask):
                 self.posts[post["to"]].append(post)
 
     def take(self, core):
         if core < len(self.clocks) and self.posts[core]:
-            post = self.posts[core].pop(0)
-            self.taken[core].append((post, self.clocks[core]))
-            self.machine.cores[core].put(post)
+            post, to = self.posts[core].pop(0), self.machine.cores[core]
+            self.taken[core].append((post, self.clocks[core], to.touched(post["line"])))
+            to.put(post)
 
     def piece(self, cycles):
         """Every core ticks by itself; the asks are served in the order of their ids; their posts are taken at the end."""
@@ -58,33 +58,45 @@ class World:
             if min(self.clocks) == self.end:
                 break
             self.tick(self.clocks.index(min(self.clocks)))
+        self.leave()
+
+    def leave(self):
+        """The machine as it is at the end, its channels closed."""
+        self.machine.close()
         self.machine.clock = self.end
 
     def violations(self):
         """The lines of what the monitors record, each with its kind."""
-        found, channels, lines = [], {}, {}
-        for ask in self.served:
-            console = ask["kind"] == "put"
-            channel = len(self.machine.buses) if console else ask["line"] % len(self.machine.buses)
-            found += self.overtaken("bus", "channel", channels, channel, ask["id"])
-            if not console:
-                found += self.overtaken("map", "line", lines, ask["line"], ask["id"])
+        found, lines = [], {}
+        for ask, clash in self.served:
+            low, line = ask["id"], ask["line"]
+            if clash:
+                found.append(overtaken("bus", "channel", self.machine.number_of_channel(ask), clash, low))
+            if ask["kind"] == "put":
+                continue
+            if lines.get(line, low) > low:
+                found.append(overtaken("map", "line", line, lines[line], low))
+            lines[line] = max(lines.get(line, low), low)
         for core, taken in enumerate(self.taken):
-            for post, clock in taken:
-                if clock > post["due"]:
+            for post, clock, touched in taken:
+                if self.is_late(post, clock, touched):
                     kind = "reply" if post["kind"] in ("reply", "retry") else "line"
                     found.append((kind, f"{kind} core {core} id {dotted(post['id'])} due {post['due']} clock {clock}"))
         return found
 
-    @staticmethod
-    def overtaken(kind, name, greatest, key, low):
-        high = greatest.get(key, low)
-        greatest[key] = max(high, low)
-        return [(kind, f"{kind} {name} {key} high {dotted(high)} low {dotted(low)}")] if high > low else []
+    def is_late(self, post, clock, touched):
+        """A late Invalidate does no harm where its core didn't touch the set since it was due, and will tick once more."""
+        if post["kind"] == "invalidate" and touched <= post["due"] and clock != self.end:
+            return False
+        return clock > post["due"]
 
 
 def dotted(number):
     return ".".join(str(part) for part in number)
+
+
+def overtaken(kind, name, key, high, low):
+    return kind, f"{kind} {name} {key} high {dotted(high)} low {dotted(low)}"
 
 
 def note(number, cycles, found):
@@ -110,7 +122,7 @@ def quantum(machine, cycles_of_piece):
         world = World(machine, cycles)
         for start in range(0, cycles, cycles_of_piece):
             world.piece(min(cycles_of_piece, cycles - start))
-        machine.clock = world.end
+        world.leave()
         notes += note(number, cycles, world.violations())
         number += 1
         if machine.clock == limit or all(core.end for core in machine.cores):

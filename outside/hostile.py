@@ -24,7 +24,7 @@ SECONDS, KILOBYTES = 60, 128 * 1024
 # How a line of standard error begins, by the status.
 BEGINNINGS = {2: b"slacksim: words", 3: b"slacksim: ", 5: b"slacksim: read fault", 6: b"slacksim: write fault", 7: b"slacksim: out of memory"}
 OPTIONS = ["cores", "base", "memory", "sets", "ways", "buses", "snoop", "memory-delay", "transfer", "occupancy", "interval",
-           "format", "notes", "seed", "mode", "slack", "quantum", "steps", "speed", ""]
+           "format", "notes", "check", "seed", "mode", "slack", "quantum", "steps", "speed", ""]
 VALUES = ["0", "1", "2", "3", "4", "8", "9", "16", "17", "64", "65", "4096", "131072", "1048576", "16777216", "4294967295", "4294967296", "99999999999",
           "-1", "+1", "007", "text", "json", "dump", "on", "off", "lockstep", "quantum", "bounded", "speculative", "script",
           "t0", "t0x99999,s1", "q", "t0,", ""]

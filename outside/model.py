@@ -11,6 +11,9 @@ DEFAULTS = {
     "transfer": 3, "occupancy": 2, "interval": 1000, "limit": 1000000,
 }
 
+# Where the times of a bus stop.
+TOP = 2**62
+
 
 class Line:
     """A line of a cache, in state S, E or M."""
@@ -27,6 +30,8 @@ class Core:
         self.x[2] = (config["base"] + config["memory"] - 4096 * number) & WORD
         self.reservation = None
         self.sets = [[] for _ in range(config["sets"])]
+        # For each set the cycle from which on the core touched it no more.
+        self.touches = [0] * config["sets"]
         self.busy, self.waiting, self.end = 0, False, None
         self.inbox = []
         self.counts = dict.fromkeys(COUNTS, 0)
@@ -36,6 +41,12 @@ class Core:
 
     def set_of(self, number):
         return self.sets[number % len(self.sets)]
+
+    def touch(self, number, clock):
+        self.touches[number % len(self.touches)] = clock + 1
+
+    def touched(self, number):
+        return self.touches[number % len(self.touches)]
 
     def find(self, number):
         return next((line for line in self.set_of(number) if line.number == number), None)
@@ -77,7 +88,9 @@ class Core:
             self.set_of(post["line"]).remove(held)
         self.lose_reservation(post["line"])
 
-    def apply(self, post, send):
+    def apply(self, post, clock, send):
+        if post["kind"] not in ("retry", "invalidate"):
+            self.touch(post["line"], clock)
         if post["kind"] == "reply":
             self.fill(post, send)
         elif post["kind"] == "retry":
@@ -96,7 +109,7 @@ class Core:
         due = [post for post in self.inbox if post["due"] <= clock]
         self.inbox = [post for post in self.inbox if post["due"] > clock]
         for post in due:
-            self.apply(post, send)
+            self.apply(post, clock, send)
         if self.end:
             pass
         elif self.busy:
@@ -181,6 +194,7 @@ class Core:
             return self.trap(clock, "misaligned", address)
         if self.is_outside(address):
             return self.trap(clock, "outside", address)
+        self.touch(self.line_of(address), clock)
         if kind == "sc" and self.reservation != address:
             self.reservation = None
             self.write(f.rd, 1)
@@ -219,6 +233,55 @@ class Core:
             self.write(f.rd, old)
 
 
+class Bus:
+    """Its counts, the cycle from which it is free, and its calendar: the slots (id, grant) of the asks that it granted since
+    it was closed, in order of id."""
+
+    def __init__(self, occupancy):
+        self.occupancy, self.asks, self.retries, self.free, self.slots = occupancy, 0, 0, 0, []
+
+    def end(self, grant):
+        return min(grant + self.occupancy, TOP)
+
+    def last_end(self):
+        return max([self.free, *(self.end(grant) for _, grant in self.slots)])
+
+    def fit(self, number):
+        """The first cycle at which the bus is free for an ask, if only those with lesser ids are before it."""
+        return max([number[0], self.free, *(self.end(grant) for other, grant in self.slots if other < number)])
+
+    def clash(self, number):
+        """The greatest id that is in an ask's way: its slot begins before the ask's would end."""
+        end = self.end(self.fit(number))
+        return max((other for other, grant in self.slots if other > number and grant < end), default=None)
+
+    def grant(self, number):
+        at = self.fit(number) if self.clash(number) is None else max(number[0], self.last_end())
+        self.slots.insert(sum(other <= number for other, _ in self.slots), (number, at))
+        self.asks += 1
+        return at
+
+    def close(self):
+        self.free, self.slots = self.last_end(), []
+
+
+class Console:
+    """Its bytes, and the greatest id of a byte since it was closed."""
+
+    def __init__(self):
+        self.data, self.greatest = bytearray(), None
+
+    def clash(self, number):
+        return self.greatest if self.greatest is not None and self.greatest > number else None
+
+    def append(self, number, byte):
+        self.greatest = number if self.greatest is None else max(self.greatest, number)
+        self.data.append(byte)
+
+    def close(self):
+        self.greatest = None
+
+
 class Entry:
     """What the status map says of a line."""
 
@@ -229,13 +292,13 @@ class Entry:
 
 class Machine:
     def __init__(self, config, entry, segments):
-        self.config, self.clock, self.console, self.entries = config, 0, bytearray(), {}
+        self.config, self.clock, self.console, self.entries = config, 0, Console(), {}
         self.memory = bytearray(config["memory"])
         for address, data in segments:
             place = address - config["base"]
             self.memory[place:place + len(data)] = data
         self.cores = [Core(number, config, entry) for number in range(config["cores"])]
-        self.buses = [{"asks": 0, "retries": 0, "free": 0} for _ in range(config["buses"])]
+        self.buses = [Bus(config["occupancy"]) for _ in range(config["buses"])]
 
     def entry(self, line):
         if line not in self.entries:
@@ -243,15 +306,24 @@ class Machine:
             self.entries[line] = Entry([int.from_bytes(data[i:i + 4], "little") for i in range(0, 16, 4)])
         return self.entries[line]
 
+    def number_of_channel(self, ask):
+        """The buses, and then the console."""
+        return len(self.buses) if ask["kind"] == "put" else ask["line"] % len(self.buses)
+
+    def channel(self, ask):
+        return [*self.buses, self.console][self.number_of_channel(ask)]
+
+    def close(self):
+        for channel in [*self.buses, self.console]:
+            channel.close()
+
     def serve(self, ask):
         """The posts that come of an ask."""
         if ask["kind"] == "put":
-            self.console.append(ask["value"])
+            self.console.append(ask["id"], ask["value"])
             return []
-        bus = self.buses[ask["line"] % len(self.buses)]
-        grant = max(ask["id"][0], bus["free"])
-        bus["asks"] += 1
-        bus["free"] = grant + self.config["occupancy"]
+        bus = self.channel(ask)
+        grant = bus.grant(ask["id"])
         posts = []
 
         def send(to, delay, kind, **more):
@@ -259,7 +331,7 @@ class Machine:
             posts.append({**post, **more})
 
         self.change(ask, grant, self.entry(ask["line"]), send)
-        bus["retries"] += sum(post["kind"] == "retry" for post in posts)
+        bus.retries += sum(post["kind"] == "retry" for post in posts)
         return posts
 
     def reply(self, entry, grant, send, to, delay, exclusive):
@@ -305,6 +377,7 @@ class Machine:
         asks = [ask for core in self.cores for ask in core.tick(self.clock, self.memory)]
         for post in [post for ask in sorted(asks, key=lambda ask: ask["id"]) for post in self.serve(ask)]:
             self.cores[post["to"]].put(post)
+        self.close()
         self.clock += 1
 
     def run(self):
@@ -322,11 +395,11 @@ class Machine:
         lines = [f"cores {len(self.cores)}", f"cycles {cycles}"]
         lines += [self.core_line(core) for core in self.cores]
         lines += [
-            f"bus {number} asks {bus['asks']} retries {bus['retries']} free {bus['free']}"
+            f"bus {number} asks {bus.asks} retries {bus.retries} free {bus.free}"
             for number, bus in enumerate(self.buses)
         ]
-        lines.append(f"console {len(self.console)}\n")
-        return "\n".join(lines).encode() + bytes(self.console) + b"\n"
+        lines.append(f"console {len(self.console.data)}\n")
+        return "\n".join(lines).encode() + bytes(self.console.data) + b"\n"
 
     def core_line(self, core):
         if not core.end:
