@@ -4,9 +4,9 @@
     python3 bench/largest.py
 
 It runs the program as it was last built, three times for each line, and prints the least elapsed and processor seconds and the
-greatest peak of resident memory. In the second table there is nothing but registers in the program, so nothing is rolled back:
-milliseconds of processor time for an interval cycle by cycle, of a drift by threads (bounded mode), and of a drift by threads
-behind a mark (speculative mode), which the difference of the last two is mostly the price of. It is a measurement and no test.
+greatest peak of resident memory. The second table is of a program in registers, so nothing is rolled back: milliseconds of
+processor time for an interval cycle by cycle, by threads (bounded mode), and by threads behind a mark (speculative mode); what
+the last two differ by is the price of the mark, and of chance. It is a measurement and no test.
 """
 
 import os
@@ -68,7 +68,7 @@ def calls():
     yield "pack an image of 16 MiB", machine("pack"), full
 
 
-def marks(memory, interval, count=200):
+def marks(memory, interval, count=100):
     """Milliseconds of processor time for an interval: cycle by cycle, bounded, speculative. The start of the run is taken off."""
     data = (TOP / "bench/loop.slk1").read_bytes()
     found = []
@@ -91,7 +91,7 @@ def main():
         print(f"{name:32} {elapsed:8.3f} {processor:10.3f} {peak / 1024:8.1f}", flush=True)
     print(f"{'memory':>10} {'interval':>9} {'lockstep':>9} {'bounded':>9} {'speculative':>12}   (processor ms an interval)")
     for memory in (1048576, MEMORY):
-        for interval in (10, 100, 1000):
+        for interval in (10, 1000):
             lockstep, bounded, speculative = marks(memory, interval)
             print(f"{memory:10} {interval:9} {lockstep:9.3f} {bounded:9.3f} {speculative:12.3f}", flush=True)
     print(load())

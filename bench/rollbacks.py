@@ -1,16 +1,17 @@
 #!/usr/bin/env python3
 """How often speculative mode rolls back: for programs of examples/ and bench/ and for generated ones, at some slacks.
 
-    python3 bench/rollbacks.py [INTERVAL] [GENERATED] [TIMES]
+    python3 bench/rollbacks.py [INTERVAL] [GENERATED] [TIMES] [PROGRAM]
 
-It runs the program as it was last built, each run TIMES times (2) in intervals of INTERVAL cycles (1000), up to 20,000 cycles.
-GENERATED (40) is how many programs of 4 cores are made by `gen`; they are summed up in one line. A line has the intervals, how
-many of them were rolled back, and how often each kind was recorded in these; the last lines are the sums over all programs.
-Which drifts come out differs from run to run, and with what else the machine does, so the load is said before and after. It is
-a measurement and no test.
+It runs the program as it was last built, or PROGRAM, each run TIMES times (2) in intervals of INTERVAL cycles (1000), up to
+20,000 cycles. GENERATED (40) is how many programs of 4 cores are made by `gen`; they are summed up in one line. A line has the
+intervals, how many of them were rolled back, and how often each kind was recorded in these; the last lines are the sums over all
+programs. Which drifts come out differs from run to run, and with what else the machine does, so the load is said before and
+after: two programs are compared by runs at the same time. It is a measurement and no test.
 """
 
 import collections
+import itertools
 import os
 import pathlib
 import re
@@ -18,7 +19,7 @@ import subprocess
 import sys
 
 TOP = pathlib.Path(__file__).resolve().parent.parent
-PROGRAM = str(TOP / "crates/slacksim/out/slacksim")
+PROGRAM = sys.argv[4] if len(sys.argv) > 4 else str(TOP / "crates/slacksim/out/slacksim")
 SLACKS = [1, 2, 4, 8, 16, 64, 256, 1000]
 TEXTS = [
     ("examples/stores.s", 2), ("examples/lock.s", 4), ("examples/conditional.s", 2), ("examples/sharing.s", 4),
@@ -65,20 +66,19 @@ def load():
 
 
 def main():
-    interval, generated, times = (int(word) for word in (*sys.argv[1:], *("1000", "40", "2")[len(sys.argv) - 1:]))
+    interval, generated, times = (int(word) for word in (*sys.argv[1:4], *("1000", "40", "2")[len(sys.argv) - 1:]))
     print(f"intervals of {interval} cycles, {times} runs each, {load()}")
     print(f"{'program':26} {'slack':>6}" + "".join(f" {head:>9}" for head in HEADS))
-    sums, programs_seen = collections.defaultdict(collections.Counter), []
-    for name, words, data in programs(generated):
-        programs_seen += [name] if name not in programs_seen else []
+    total = collections.defaultdict(collections.Counter)
+    for name, same in itertools.groupby(programs(generated), lambda program: program[0]):
+        sums = collections.defaultdict(collections.Counter)
+        for (_, words, data), slack, _ in itertools.product(same, SLACKS, range(times)):
+            sums[slack] += counts(words, data, slack, interval)
         for slack in SLACKS:
-            for _ in range(times):
-                found = counts(words, data, slack, interval)
-                sums[name, slack] += found
-                sums["all", slack] += found
-    for name in [*programs_seen, "all"]:
-        for slack in SLACKS:
-            show(name, slack, sums[name, slack])
+            show(name, slack, sums[slack])
+            total[slack] += sums[slack]
+    for slack in SLACKS:
+        show("all", slack, total[slack])
     print(load())
 
 
