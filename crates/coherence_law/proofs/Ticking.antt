@@ -29,6 +29,7 @@ use Rattle.slack_base.specs.Inboxes.{CoreValue}
 use Rattle.timed_core.specs.Cores.{HartValue}
 use Rattle.timed_core.specs.Posts.{applied, replied, evicted, is_modified}
 use Rattle.timed_core.specs.Ticks.{applied_all, asks_of, id_at, stepped, tick}
+use Rattle.timed_core.specs.Touches.{touched_at}
 use Rattle.timed_core.specs.Laws.{IsSoundHart}
 use Rattle.timed_core.proofs.Steps.{IsAskBelow}
 use Rattle.timed_core.proofs.PostSteps.{applied_step}
@@ -160,7 +161,7 @@ module _ (config : RawConfig) (code : CodeValue) (fit : IsFit config code) (t : 
   unfolding applied replied
   applied_cache (Reply exclusive words) code_base line id core is =
       let new = filled line exclusive words in
-      subst IsCache (sym (evicted_cache code_base (victim_of core.cache new) id (record core { cache = fill_line core.cache new; waiting = false }))) (fill_is core.cache is new)
+      subst IsCache (sym (evicted_cache code_base (victim_of core.cache new) id (record (touched_at id.cycle line core) { cache = fill_line core.cache new; waiting = false }))) (fill_is core.cache is new)
   applied_cache Retry code_base line id core is = is
   applied_cache SnoopShare code_base line id core is = snoop_is core.cache is line false
   applied_cache SnoopOwn code_base line id core is = snoop_is core.cache is line true
