@@ -2,7 +2,7 @@
 ghost use Rattle.std.specs.Prelude.{◌<◌, ◌≤◌};
 ghost use Rattle.slack_base.specs.declared.bounds.TheConstants.{GENERATED_MEMORY, TOP};
 
-use crate::machines::are_same_cores;
+use crate::machines::{GENERATED_LINE, are_same_cores};
 use slack_base::{Ask, AskList, Config, Id, OutOfMemory, Post, PostKind, RawConfig, Words};
 use std::alloc::Global;
 use std::process::Abort;
@@ -12,9 +12,6 @@ use workload_gen::program;
 
 /// The cycle in which the invalidation is due.
 const DUE: u32 = 60;
-
-/// The first of the sixteen lines that generated programs load from and store to.
-const FIRST_LINE: u32 = 4096;
 
 /// By how many cycles it may come late.
 const DELAYS: [u32; 3] = [1, 4, 9];
@@ -115,11 +112,10 @@ fn invalidate(line: u32) -> Post {
     }
 }
 
-/// Whether two cores are the same, with the same lines and the same touch of a post's set, and sent the same asks.
+/// Whether two cores are the same, with the same touch of a post's set, and sent the same asks.
 fn are_alike(a: &Alone, b: &Alone, post: &Post) -> bool {
     a.asks.as_slice() == b.asks.as_slice()
         && are_same_cores(&a.core, &b.core)
-        && (FIRST_LINE..FIRST_LINE + 16).all(|line| a.core.held(line) == b.core.held(line))
         && a.core.touched(post) == b.core.touched(post)
 }
 
@@ -150,7 +146,7 @@ fn late_and_in_time(rt: HostRuntime) -> Result<(), Fail> {
     for seed in 1..=12 {
         let image = program(rt.alloc(), seed, &config)?;
         let code = Code::of(rt.alloc(), &image, &config)?;
-        for line in FIRST_LINE..FIRST_LINE + 8 {
+        for line in GENERATED_LINE..GENERATED_LINE + 8 {
             for delay in DELAYS {
                 let post = invalidate(line);
                 let (free, same) = passes(rt.alloc(), &config, &code, &post, delay)?;

@@ -21,6 +21,9 @@ pub const LOADS: &[u8] =
 /// The first of the lines that the programs store to and load from.
 pub const LINE: u32 = 256;
 
+/// The first of the sixteen lines that generated programs use.
+pub const GENERATED_LINE: u32 = 4096;
+
 /// The default configuration with so many cores.
 pub fn config_of<R: Abort>(rt: &R, cores: u32) -> Config
     ensures { (result.cores ≡ cores) × (result.buses ≡ 1) }
@@ -74,6 +77,7 @@ pub fn are_same_cores(a: &TimedCore, b: &TimedCore) -> bool {
         && a.end() == b.end()
         && a.counts() == b.counts()
         && (LINE..LINE + 3).all(|line| a.held(line) == b.held(line))
+        && (GENERATED_LINE..GENERATED_LINE + 16).all(|line| a.held(line) == b.held(line))
         && (0..32).all(|n| a.reg(n) == b.reg(n))
 }
 
@@ -83,5 +87,7 @@ pub fn are_same_channels(a: &Channel, b: &Channel) -> bool {
         && a.asks() == b.asks()
         && a.retries() == b.retries()
         && (LINE..LINE + 3).all(|line| a.find_entry(line) == b.find_entry(line))
+        && (GENERATED_LINE..GENERATED_LINE + 16).all(|line| a.find_entry(line)
+            == b.find_entry(line))
         && a.console_bytes() == b.console_bytes()
 }

@@ -13,10 +13,12 @@ use checkpoint::Checkpoint;
 use drift_run::{Pace, drift_serial};
 use io_edge::NeverHold;
 use lockstep_model::{Machine, RvTarget, start};
-use slack_base::OutOfMemory;
+use slack_base::{Config, GENERATED_MEMORY, OutOfMemory, RawConfig};
 use std::alloc::Global;
+use std::process::Abort;
 use std::test::Fail;
 use target_law::run_to;
+use workload_gen::program;
 
 /// How the drift is paced.
 const PACE: Pace = Pace {
@@ -105,5 +107,63 @@ fn two_lines_are_noted(rt: HostRuntime) -> Result<(), Fail> {
     assert_eq!(rt; noted_in(&machine), Some((2, 2)));
     checkpoint.restore(&target, &mut machine);
     assert!(rt; are_same(&machine, &start(alloc, &target, &image)?));
+    Ok(())
+}
+
+/// Cores, sets, ways and buses.
+const MACHINES: [(u32, u32, u32, u32); 6] = [
+    (1, 1, 1, 1),
+    (2, 64, 8, 2),
+    (3, 4, 2, 4),
+    (4, 2, 1, 1),
+    (5, 16, 4, 2),
+    (8, 8, 1, 4),
+];
+
+/// Whether a machine with a generated program drifts away from its mark, and comes back to it.
+fn comes_back<R: Abort + AllocGlobal>(
+    rt: &R,
+    seed: u32,
+    machine: &(u32, u32, u32, u32),
+) -> Result<bool, Fail> {
+    let alloc = rt.alloc();
+    let (cores, sets, ways, buses) = *machine;
+    let numbers = RawConfig {
+        cores,
+        sets,
+        ways,
+        buses,
+        ..RawConfig::DEFAULT
+    };
+    let config = Config::checked(numbers).expect(rt, "a configuration within its bounds");
+    if config.memory < GENERATED_MEMORY {
+        return Ok(false);
+    }
+    let image = program(alloc, seed, &config)?;
+    let target = RvTarget::make(alloc, config, &image)?;
+    let mut machine = start(alloc, &target, &image)?;
+    run_to(alloc, &target, &mut machine, 40)?;
+    let mut other = start(alloc, &target, &image)?;
+    run_to(alloc, &target, &mut other, 40)?;
+    let Away {
+        checkpoint,
+        mut machine,
+    } = drift_away(alloc, &target, machine, 60)?;
+    let away = !are_same(&machine, &other);
+    checkpoint.restore(&target, &mut machine);
+    Ok(away && are_same(&machine, &other))
+}
+
+/// Generated programs, on machines of all sizes.
+#[test]
+fn generated_programs_come_back(rt: HostRuntime) -> Result<(), Fail> {
+    for seed in 1..=3 {
+        for machine in &MACHINES {
+            assert!(rt;
+                comes_back(&rt, seed, machine)?,
+                "program {seed}, {machine:?}"
+            );
+        }
+    }
     Ok(())
 }
