@@ -1,4 +1,4 @@
-use Rattle.std.proofs.Common.{◌≡◌, ◌∙◌, ℕ, List, Option, Some, None, IsSome, map, slice_get, sym, ap, subst}
+use Rattle.std.proofs.Common.{◌≡◌, ◌∙◌, ℕ, List, Option, Some, None, IsSome, map, slice_get, refl, sym, ap, subst}
 use Rattle.std.specs.Option.{option_map}
 use Rattle.std.proofs.lemmas.Option.{none-some, same_Some, slice_get-map}
 use Rattle.slack_base.specs.Inboxes.{CoreValue}
@@ -11,7 +11,7 @@ module _ {X : Type 0} where
   of_some : (saved : Option X) (found : Option X) → Some saved ≡ option_map Some found → IsSome saved
   of_some saved None is = absurd (none-some saved (sym is))
   of_some saved (Some v) is =
-      let some : IsSome (Some v) = tt in
+      let some : IsSome (Some v) = refl in
       subst (λ (o : Option X). IsSome o) (sym (same_Some saved (Some v) is)) some
 
   -- where each one is marked, the one at a place is
