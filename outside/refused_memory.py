@@ -25,7 +25,7 @@ TESTS = [
     ("drift_tests", "serial::a_race_that_is_repeated"),
 ]
 WANT = b"slacksim: out of memory\n"
-WANT_IN_TEST = rb"error: (AllocError|OutOfMemory)\n.*result gives status 1\n"
+WANT_IN_TEST = rb"error: (AllocError|AllocFailed \{ \.\. \}|OutOfMemory)\n.*result gives status 1\n"
 
 
 def run(words, data, library=None, fail_at=0, count_in="", program=PROGRAM):
