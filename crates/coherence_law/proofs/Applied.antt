@@ -31,7 +31,7 @@ use Rattle.coherence_law.proofs.Changes.{changed_at, changed_off}
 use Rattle.coherence_law.proofs.Parts.{fills, retries, invalidates, losses}
 use Rattle.coherence_law.proofs.Flushes.{writes_back}
 use Rattle.coherence_law.proofs.Shown.{snoops}
-use Rattle.coherence_law.proofs.Held.{snoop_other, snoop_taken, snoop_shared, IsFill, fill_held, held_below}
+use Rattle.timed_core.proofs.Held.{snoop_other, snoop_taken, snoop_shared, IsFill, fill_held, held_below}
 use Rattle.coherence_law.proofs.Pending.{HasPosts, skip, take_answer, take_invalidate, take_snoop}
 use Rattle.coherence_law.proofs.World.{upd, upd_at, upd_off, to_core, pending, is_wanting, IsPartOf, AreParts, IsLineOf, IsBefore}
 

@@ -37,7 +37,7 @@ use Rattle.coherence_law.proofs.Changes.{changed_at, changed_off}
 use Rattle.coherence_law.proofs.Parts.{writes}
 use Rattle.coherence_law.proofs.Rows.{reads, owns_line}
 use Rattle.coherence_law.proofs.Applied.{AreLines, AreStepped}
-use Rattle.coherence_law.proofs.Held.{read_held, write_other, write_same, read_is, write_is}
+use Rattle.timed_core.proofs.Held.{read_held, write_other, write_same, read_is, write_is}
 use Rattle.coherence_law.proofs.Pending.{Picks, answer_of, answer}
 use Rattle.coherence_law.proofs.World.{upd, upd_at, upd_off, pending, is_wanting, IsPartOf, AreParts, IsBefore}
 

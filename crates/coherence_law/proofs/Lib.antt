@@ -5,7 +5,6 @@ pub mod Cycling
 pub mod Executed
 pub mod Flushes
 pub mod Grants
-pub mod Held
 pub mod Holders
 pub mod Listed
 pub mod Parts

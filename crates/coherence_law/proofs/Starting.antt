@@ -43,7 +43,7 @@ use Rattle.coherence_law.specs.Breaks.{breaks_of, is_coherent, lines_in}
 use Rattle.coherence_law.specs.Coherent.{held_of, held_at, IsInMemory, IsCoherent}
 use Rattle.coherence_law.specs.Unbroken.{machine_after, AllCoherent, NoBreaks, NoBreaksOf}
 use Rattle.coherence_law.proofs.Chans.{HasEntry, entry_found}
-use Rattle.coherence_law.proofs.Held.{held_below}
+use Rattle.timed_core.proofs.Held.{held_below}
 use Rattle.coherence_law.proofs.Testing.{all_tests, none_fail}
 use Rattle.coherence_law.proofs.Cycling.{pick_of, inner_of, base_of, IsBetween, cycle_between}
 use Rattle.coherence_law.proofs.Ticking.{IsFit, IsWorld, IsSent}

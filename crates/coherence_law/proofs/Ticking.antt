@@ -41,7 +41,7 @@ use Rattle.lockstep_model.specs.Rules.{rules_of}
 use Rattle.coherence_law.proofs.Applied.{AreLines, AreAsked, AreStepped, applied_lines}
 use Rattle.coherence_law.proofs.Chans.{HasEntry, HasConsole, chans_after, posts_of, asked_line, asked_console}
 use Rattle.coherence_law.proofs.Executed.{stepped_lines}
-use Rattle.coherence_law.proofs.Held.{fill_is, snoop_is}
+use Rattle.timed_core.proofs.Held.{fill_is, snoop_is}
 use Rattle.coherence_law.proofs.Pending.{Picks, HasPosts, has_same, parted}
 use Rattle.coherence_law.proofs.World.{upd, upd_at, upd_each, to_core, IsPartOf, line_served, posts_about, entry_then}
 

@@ -82,7 +82,7 @@ impl Target for RvTarget {
     }
 
     fn quiet(&self, core: &TimedCore, from: u64) -> u64 {
-        core.quiet(from)
+        core.quiet(&self.code, from)
     }
 
     fn serve(&self, chan: &mut Channel, ask: &Ask, out: &mut PostList) -> Result<(), OutOfMemory> {

@@ -2,6 +2,8 @@ pub mod AccessSteps
 pub mod Due
 pub mod Fetching
 pub mod Flagging
+pub mod Foresight
+pub mod Held
 pub mod Hits
 pub mod OwnCaches
 pub mod InstructionSteps
@@ -10,6 +12,7 @@ pub mod Lawful
 pub mod late
 pub mod Marking
 pub mod PostSteps
+pub mod Quieting
 pub mod Reaching
 pub mod Restoring
 pub mod Steps

@@ -11,7 +11,7 @@ use Rattle.slack_base.specs.Inboxes.{CoreValue, tick_by, ticks_by}
 use Rattle.timed_core.specs.Code.{CodeValue, word_at}
 use Rattle.timed_core.specs.Cores.{HartValue, is_running}
 use Rattle.timed_core.specs.Ticks.{asks_of, id_at, fetched, stepped, tick}
-use Rattle.timed_core.specs.Stretches.{stretch, IsStretch, IsLeap, AreTicks, rest_of}
+use Rattle.timed_core.specs.Stretches.{stretch, IsStretch, IsLeap, AreTicks}
 use Rattle.timed_core.specs.Outcomes.{IsReady, Does, asks, ask_of}
 use Rattle.timed_core.specs.declared.outcomes.Outcome.{Outcome}
 use Rattle.timed_core.specs.declared.outcomes.Outcome.TheVariants.{Ready, Rests, Read, ReadOwn, Put}
@@ -35,7 +35,7 @@ ended_step : (code : CodeValue) (id : Id) (core : HartValue) → is_running core
 unfolding stepped
 ended_step code id core ended = rw ended refl
 
-busy_step : (code : CodeValue) (id : Id) (core : HartValue) → is_running core.ended ≡ true → (core.busy == 0) ≡ false
+pub busy_step : (code : CodeValue) (id : Id) (core : HartValue) → is_running core.ended ≡ true → (core.busy == 0) ≡ false
     → stepped code id core ≡ (record core { busy = core.busy - 1 }, None)
 unfolding stepped
 busy_step code id core running busy = rw (running, busy) refl
@@ -357,37 +357,3 @@ more_ticks code t mid next old now new sent middle out before silent le lt more 
       asks = more.asks ∙ ap (λ s. s ++ (ticks_by (tick code) mid (next - mid) now).1) same ∙ ap (λ r. sent ++ r.1) all;
       last = λ some. sym (ap (λ n. (ticks_by (tick code) t n old).1) near) ∙ sym (ap (λ r. r.1) (on (next - mid - 1))) ∙ more.last;
     }
-
--- a core is quiet for so long
-record IsRest (code : CodeValue) (t most k : ℕ) (core : HartValue) : Type 0 where
-  within : k ≤ most
-  silent : (stretch code 0 t k core).1 ≡ []
-
-rests : (code : CodeValue) (t most : ℕ) (core : HartValue) → IsRest code t most (rest_of core most) core
-rests code t most core = elim (cases_Bool (is_running core.ended)) [
-  | inl running ↦ elim (cases_Bool core.waiting) [
-    | inl waits ↦
-        let all : rest_of core most ≡ most = rw (running, waits) refl in
-        subst (λ k. IsRest code t most k core) (sym all) (record { within = omega arith; silent = silent_while code 0 t most core waits })
-    | inr awake ↦
-        let some : rest_of core most ≡ min core.busy most = rw (running, awake) refl in
-        subst (λ k. IsRest code t most k core) (sym some) (record { within = grind arith; silent = ap (λ r. r.1) (busy_leap (min core.busy most) core running (grind arith) code 0 t) })
-  ]
-  | inr ended ↦
-      let all : rest_of core most ≡ most = rw ended refl in
-      subst (λ k. IsRest code t most k core) (sym all) (record { within = omega arith; silent = ap (λ r. r.1) (ended_leap most core ended code 0 t) })
-]
-
-quiet_for : (code : CodeValue) (t k due : ℕ) (core : HartValue) (inbox : List Post) → AllByRecursion (λ p. due ≤ p.due) inbox → k ≤ due - t
-    → (stretch code 0 t k core).1 ≡ [] → (ticks_by (tick code) t k (record { inner = core; inbox = inbox })).1 ≡ []
-quiet_for code t zero due core inbox later le silent = refl
-quiet_for code t (suc k) due core inbox later le silent =
-    let before : t + suc k ≤ due = omega (arith, le) in
-    ap (λ r. r.1) (ticks_of_stretch code t (suc k) due core inbox later before) ∙ silent
-
-pub quiet_ticks : (code : CodeValue) (t due most k : ℕ) (core : HartValue) (inbox : List Post) → AllByRecursion (λ p. due ≤ p.due) inbox → most ≡ due - t
-    → k ≡ rest_of core most → (ticks_by (tick code) t k (record { inner = core; inbox = inbox })).1 ≡ []
-quiet_ticks code t due most k core inbox later count is =
-    let rest = rests code t most core in
-    ap (λ n. (ticks_by (tick code) t n (record { inner = core; inbox = inbox })).1) is
-    ∙ quiet_for code t (rest_of core most) due core inbox later (omega (arith, rest.within, count)) rest.silent

@@ -2,6 +2,7 @@ pub mod Accesses
 pub mod Code
 pub mod Cores
 pub mod Effects
+pub mod Foresight
 pub mod Journals
 pub mod Kept
 pub mod LateLaws

@@ -1,10 +1,11 @@
 -- Cycles of a core, one after another, with no new post.
-use Rattle.std.specs.Prelude.{◌≡◌, ℕ, ◌+◌, ◌-◌, ◌&&◌, zero, suc, List, [], ◌++◌, min, not, if◌then◌else◌}
+use Rattle.std.specs.Prelude.{◌≡◌, ℕ, ◌+◌, ◌-◌, zero, suc, List, [], ◌++◌}
 use Rattle.slack_base.specs.declared.messages.Ask.{Ask}
 use Rattle.slack_base.specs.Inboxes.{CoreValue, ticks_by}
 use Rattle.stamp_queue.specs.Inbox.{next_due}
 use Rattle.timed_core.specs.Code.{CodeValue}
-use Rattle.timed_core.specs.Cores.{HartValue, is_running}
+use Rattle.timed_core.specs.Cores.{HartValue}
+use Rattle.timed_core.specs.Foresight.{rest_of}
 use Rattle.timed_core.specs.Outcomes.{ask_of}
 use Rattle.timed_core.specs.Ticks.{asks_of, id_at, stepped, tick}
 use Rattle.timed_core.specs.declared.harts.stretches.Stretch.{Stretch}
@@ -36,11 +37,7 @@ pub record AreTicks (code : CodeValue) (t next : ℕ) (old new : CoreValue HartV
 abbrev pub IsLeap : (k : ℕ) → HartValue → HartValue → Type 0
 IsLeap k old new = (code : CodeValue) (number t : ℕ) → stretch code number t k old ≡ (new, [])
 
--- for how many of so many cycles a hart to which no post comes surely asks for nothing: for all of them once it has
--- ended or while it waits for a line, and else while it is busy
-abbrev pub rest_of : HartValue → (most : ℕ) → ℕ
-rest_of core most = if is_running core.ended && not core.waiting then min core.busy most else most
-
--- the same of a core from a cycle on, up to the cycle at which its first post is due
-abbrev pub quiet_of : (from : ℕ) → CoreValue HartValue → ℕ
-quiet_of from core = rest_of core.inner (next_due core.inbox - from)
+-- for how many cycles from one on a core surely asks for nothing if no post comes: of those up to the cycle at which its first
+-- post is due
+abbrev pub quiet_of : CodeValue → (from : ℕ) → CoreValue HartValue → ℕ
+quiet_of code from core = rest_of code core.inner (next_due core.inbox - from)

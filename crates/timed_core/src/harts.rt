@@ -3,6 +3,7 @@ ghost use Rattle.std.specs.Prelude.{◌≡◌, ◌-◌, ◌/◌};
 ghost use Rattle.timed_core.specs.Cores.{line_number};
 
 mod execution;
+mod foresight;
 mod hits;
 mod instructions;
 mod posts;

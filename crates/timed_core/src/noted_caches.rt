@@ -32,7 +32,7 @@ impl Model for NotedCache {
 impl NotedCache {
     ghost use Rattle.std.specs.Option.{option_map};
     ghost use Rattle.slack_base.specs.Bounds.{is_among};
-    ghost use Rattle.mesi_cache.specs.Caches.{empty_cache, line_in, read_line, write_line, fill_line, victim_of, snoop_line};
+    ghost use Rattle.mesi_cache.specs.Caches.{IsCache, empty_cache, line_in, read_line, write_line, fill_line, victim_of, snoop_line};
     ghost use Rattle.mesi_cache.specs.Lines.{filled, held_line, may_write};
     ghost use Rattle.mesi_cache.specs.Places.{IsFoundIn};
     ghost use Rattle.mesi_cache.specs.Words.{word_of};
@@ -61,6 +61,14 @@ impl NotedCache {
         ensures found { IfSome result (λ f. IsFoundIn self.now.value.cache f) }
     {
         self.sets.find(line)
+    }
+
+    /// What is so of every cache. Nothing is computed here.
+    #[inline(always)]
+    pub fn shape(&self)
+        ensures { IsCache self.now.value.cache }
+    {
+        self.sets.shape();
     }
 
     /// The state and the words of a line: none where the cache doesn't hold it.

@@ -40,7 +40,7 @@ impl NotedSets {
     ghost use Rattle.std.specs.Option.{option_map};
     ghost use Rattle.slack_base.specs.Bounds.{is_among};
     ghost use Rattle.std.specs.Prelude.{◌∷◌};
-    ghost use Rattle.mesi_cache.specs.Caches.{IsSet, empty_cache, set_number, line_in, read_line, write_line, fill_line, victim_of, snoop_line};
+    ghost use Rattle.mesi_cache.specs.Caches.{IsCache, IsSet, empty_cache, set_number, line_in, read_line, write_line, fill_line, victim_of, snoop_line};
     ghost use Rattle.mesi_cache.specs.Copies.{with_set_numbered, CanHold};
     ghost use Rattle.mesi_cache.specs.Lines.{filled, held_line, may_write};
     ghost use Rattle.mesi_cache.specs.Places.{IsFoundIn};
@@ -152,6 +152,14 @@ impl NotedSets {
         ensures found { IfSome result (λ f. IsFoundIn self.now.cache f) }
     {
         self.cache.find(line)
+    }
+
+    /// What is so of every cache. Nothing is computed here.
+    #[inline(always)]
+    pub fn shape(&self)
+        ensures { IsCache self.now.cache }
+    {
+        self.cache.sets();
     }
 
     /// The state and the words of a line: none where the cache doesn't hold it.

@@ -244,14 +244,14 @@ impl TimedCore {
     }
 
     /// How many cycles from a cycle on the core certainly sends nothing, if no post comes in: up to the cycle at which
-    /// its first post is due all of them where it has ended or waits for a line, and else those for which it is busy. It
-    /// takes no memory.
-    pub fn quiet(&self, from: u64) -> u64
-        ensures count { result ≡ quiet_of from self.now.value }
-        ensures silent { (code : CodeValue) → (ticks_by (tick code) from result self.now.value).1 ≡ [] }
+    /// its first post is due all of them where it has ended or waits for a line, and else those for which it is busy and
+    /// those of its next 64 instructions, up to one that may ask for something. It takes no memory.
+    pub fn quiet(&self, code: &Code, from: u64) -> u64
+        ensures count { result ≡ quiet_of code.now from self.now.value }
+        ensures silent { (ticks_by (tick code.now) from result self.now.value).1 ≡ [] }
     {
         let due = self.inbox.next_due();
-        self.hart.rest(due.saturating_sub(from))
+        self.hart.rest(code, due.saturating_sub(from))
     }
 
     /// Marks the core as it is now: all of it but its cache and its touches is copied, and from then on what a set of the

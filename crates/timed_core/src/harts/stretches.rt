@@ -3,12 +3,12 @@ ghost use Rattle.std.specs.Prelude.{◌≡◌, ◌+◌, ◌-◌, ◌<◌, ◌≤
 ghost use Rattle.slack_base.specs.Growing.{capped};
 ghost use Rattle.slack_base.specs.declared.bounds.TheConstants.{TOP};
 ghost use Rattle.timed_core.specs.Outcomes.{IsReady, asks};
-ghost use Rattle.timed_core.specs.Stretches.{IsStretch, IsLeap, rest_of};
+ghost use Rattle.timed_core.specs.Stretches.{IsStretch, IsLeap};
 
 use crate::code::Code;
 use crate::harts::Hart;
 use crate::outcomes::Outcome;
-use slack_base::{CoreEnd, capped};
+use slack_base::capped;
 
 /// The end of a stretch: the cycle after it, and what its last cycle came to.
 #[derive(Clone, Copy)]
@@ -18,17 +18,6 @@ pub struct Stretch {
 }
 
 impl Hart {
-    /// For how many of so many cycles the hart surely asks for nothing, if no post comes in.
-    pub fn rest(&self, most: u64) -> u64
-        ensures { result ≡ rest_of self.now.value most }
-    {
-        if self.ended == CoreEnd::Running && !self.waiting {
-            most.min(u64::from(self.busy))
-        } else {
-            most
-        }
-    }
-
     /// Goes over cycles in which no instruction is executed, up to so many: how many they are.
     fn leap(&mut self, most: u64) -> u64
         requires { 0 < most }

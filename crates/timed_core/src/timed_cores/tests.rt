@@ -5,6 +5,7 @@ ghost use Rattle.std.specs.Prelude.{◌≡◌, IfOk};
 ghost use Rattle.slack_base.specs.Images.{Fits};
 
 mod addresses;
+mod foresight;
 mod instructions;
 mod marks;
 mod noted;

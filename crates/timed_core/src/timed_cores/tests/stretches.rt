@@ -90,24 +90,3 @@ fn leaps_are_ticks(rt: HostRuntime) -> Result<(), Fail> {
     }
     Ok(())
 }
-
-/// A program, the due of a post, and for how many cycles the core is quiet after cycle 1.
-type Rest = (&'static str, [u32; 2], u64, u64);
-
-const RESTS: [Rest; 5] = [
-    ("ready", [LUI_X8, LUI_X8], 9, 0),
-    ("busy for 15 cycles more", [LUI_X8, DIV_X5], 40, 15),
-    ("busy, and a post comes first", [LUI_X8, DIV_X5], 9, 7),
-    ("waiting", [LUI_X8, LW_X5], 40, 38),
-    ("ended", [0, 0], 40, 38),
-];
-
-#[test]
-fn a_core_is_quiet_so_long(rt: HostRuntime) -> Result<(), Fail> {
-    for (text, words, due, cycles) in &RESTS {
-        let posts = [post(*due, 256, PostKind::Retry)];
-        let seen = run(&rt, rt.alloc(), words, &posts, 2)?;
-        assert_eq!(rt; seen.core.quiet(2), *cycles, "{text}");
-    }
-    Ok(())
-}
