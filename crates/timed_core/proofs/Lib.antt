@@ -9,6 +9,7 @@ pub mod Keeping
 pub mod Lawful
 pub mod late
 pub mod Marking
+pub mod Noting
 pub mod PostSteps
 pub mod Reaching
 pub mod Restoring
