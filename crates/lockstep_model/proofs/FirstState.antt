@@ -17,12 +17,13 @@ use Rattle.bus_model.specs.Settings.{setting_of}
 use Rattle.bus_model.specs.Starting.{first_bus}
 use Rattle.timed_core.specs.Code.{CodeValue, code_of}
 use Rattle.timed_core.specs.Cores.{HartValue}
+use Rattle.timed_core.specs.Views.{MarkedCore}
 use Rattle.timed_core.proofs.Lawful.{all_starts}
 use Rattle.target_law.specs.Numbered.{AllNumbered}
 use Rattle.target_law.specs.Proper.{IsCoreOf, IsChanOf}
 use Rattle.lockstep_model.specs.Rules.{rules_of, owns_of, number_in}
 use Rattle.lockstep_model.specs.Start.{first_core_value, first_console, IsFirstChannel}
-use Rattle.lockstep_model.specs.Views.{values_of}
+use Rattle.lockstep_model.specs.Views.{cores_of, values_of}
 
 -- one item more
 pub numbered_more : {X : Type 0} (P : ℕ → X → Type 0) (n k : ℕ) (xs : List X) (x : X) → k ≡ n + length xs → AllNumbered P n xs → P k x → AllNumbered P n (xs ++ x ∷ [])
@@ -35,6 +36,16 @@ values_more xs x before value many one = map-append (λ y. y.value) xs (x ∷ []
 
 pub unmarked_more : {X : Type 0} (xs : List (Marked X)) (x : Marked X) → All (λ y. y.saved ≡ None) xs → x.saved ≡ None → All (λ y. y.saved ≡ None) (xs ++ x ∷ [])
 unmarked_more xs x all one = All-append (λ y. y.saved ≡ None) xs (x ∷ []) all (All-cons (λ y. y.saved ≡ None) x [] one (All-nil (λ y. y.saved ≡ None)))
+
+-- one core more
+pub cores_more : (cores : List MarkedCore) (core : MarkedCore) (before : List (CoreValue HartValue)) (value : CoreValue HartValue)
+    → cores_of cores ≡ before → core.value ≡ value → cores_of (cores ++ core ∷ []) ≡ before ++ value ∷ []
+cores_more cores core before value many one =
+    map-append (λ (x : MarkedCore). x.value) cores (core ∷ []) ∙ ap (λ xs. xs ++ core.value ∷ []) many ∙ ap (λ x. before ++ x ∷ []) one
+
+pub cores_unmarked_more : (cores : List MarkedCore) (core : MarkedCore) → All (λ x. x.saved ≡ None) cores → core.saved ≡ None → All (λ x. x.saved ≡ None) (cores ++ core ∷ [])
+cores_unmarked_more cores core all one =
+    All-append (λ x. x.saved ≡ None) cores (core ∷ []) all (All-cons (λ x. x.saved ≡ None) core [] one (All-nil (λ (x : MarkedCore). x.saved ≡ None)))
 
 count_of : (image : Image) (config : RawConfig) → length (code_of image config).bytes ≡ config.memory
 unfolding bytes_from

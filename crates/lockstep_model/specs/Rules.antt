@@ -2,7 +2,6 @@
 use Rattle.std.specs.Prelude.{ℕ, ◌+◌, ◌&&◌, Bool, true, Option, Some, None, not, nat_lt, nat_le}
 use Rattle.slack_base.specs.declared.bounds.TheConstants.{TOP}
 use Rattle.slack_base.specs.declared.configs.RawConfig.{RawConfig}
-use Rattle.slack_base.specs.Inboxes.{CoreValue}
 use Rattle.slack_base.specs.Marks.{Marked}
 use Rattle.slack_base.specs.Messages.{id_of, line_of}
 use Rattle.slack_base.specs.Numbers.{lines_of}
@@ -17,6 +16,7 @@ use Rattle.timed_core.specs.Cores.{HartValue, is_running}
 use Rattle.timed_core.specs.Laws.{IsSoundHart}
 use Rattle.timed_core.specs.Ticks.{tick}
 use Rattle.timed_core.specs.Touches.{touched_of}
+use Rattle.timed_core.specs.Views.{MarkedCore}
 use Rattle.target_law.specs.Rules.{Rules, Owns}
 use Rattle.target_law.specs.Values.{Values}
 
@@ -60,7 +60,7 @@ abbrev pub owns_of : RawConfig → Owns HartValue ChannelValue
 owns_of config = record { core = IsSoundHart config; chan = IsOwnChannel config }
 
 -- a stored core and a stored channel are seen as their present values and those at their marks
-abbrev pub stored_values : Values (Marked (CoreValue HartValue)) (Marked ChannelValue) HartValue ChannelValue
+abbrev pub stored_values : Values MarkedCore (Marked ChannelValue) HartValue ChannelValue
 stored_values = record {
   core = λ core. core.value;
   chan = λ chan. chan.value;

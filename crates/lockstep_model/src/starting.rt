@@ -11,7 +11,7 @@ ghost use Rattle.target_law.specs.Numbered.{AllNumbered};
 ghost use Rattle.target_law.specs.Proper.{IsProper, IsPunctual};
 ghost use Rattle.lockstep_model.specs.Rules.{rules_of, owns_of, stored_values};
 ghost use Rattle.lockstep_model.specs.Start.{start_of, first_buses, first_console, first_core_value, IsFirstChannel};
-ghost use Rattle.lockstep_model.specs.Views.{machine_of, values_of};
+ghost use Rattle.lockstep_model.specs.Views.{cores_of, machine_of, values_of};
 
 use crate::rv_targets::RvTarget;
 use bus_model::Channel;
@@ -41,7 +41,7 @@ pub fn start(alloc: Global, target: &RvTarget, image: &Image) -> Result<Machine,
 
 /// The cores before the first cycle.
 fn first_cores(alloc: Global, config: &Config, entry: u32) -> Result<Row<TimedCore>, OutOfMemory>
-    ensures cores { IfOk result (λ cores. values_of cores ≡ map (first_core_value (numbers_of config.now) entry) (range_with_len 0 config.now.cores)) }
+    ensures cores { IfOk result (λ cores. cores_of cores ≡ map (first_core_value (numbers_of config.now) entry) (range_with_len 0 config.now.cores)) }
     ensures unmarked { IfOk result (All (λ core. core.saved ≡ None)) }
 {
     let mut cores = Row::new(alloc);

@@ -11,6 +11,7 @@ pub mod Keeping
 pub mod Lawful
 pub mod late
 pub mod Marking
+pub mod Noting
 pub mod PostSteps
 pub mod Quieting
 pub mod Reaching

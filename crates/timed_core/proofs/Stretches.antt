@@ -259,7 +259,7 @@ module _ (code : CodeValue) where
   beside inbox r = (record { inner = r.0; inbox = inbox }, r.1)
 
   -- a tick in which no post is due
-  tick_of_step : (t : ℕ) (core : HartValue) (inbox : List Post) → AllByRecursion (λ p. t < p.due) inbox →
+  pub tick_of_step : (t : ℕ) (core : HartValue) (inbox : List Post) → AllByRecursion (λ p. t < p.due) inbox →
       tick_by (tick code) t (record { inner = core; inbox = inbox }) ≡ beside inbox (let now = stepped code (id_at t core 0) core in (now.0, asks_of now.1))
   unfolding tick
   tick_of_step t core inbox later =

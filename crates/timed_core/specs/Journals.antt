@@ -1,5 +1,5 @@
 -- What the sets of a cache held, and since when they were left alone, before they changed.
-use Rattle.std.specs.Prelude.{ℕ, ◌≡◌, ◌<◌, ◌≤◌, ◌==◌, ◌||◌, ◌+◌, Bool, true, false, Option, Some, None, List, [], ◌∷◌, All, length, get_or, slice_set}
+use Rattle.std.specs.Prelude.{ℕ, ◌≡◌, ◌<◌, ◌≤◌, ◌==◌, ◌||◌, ◌+◌, Bool, true, false, Option, Some, None, List, [], ◌∷◌, All, length, get_or, map, slice_set}
 use Rattle.mesi_cache.specs.declared.lines.CacheLine.{CacheLine}
 use Rattle.mesi_cache.specs.Caches.{CacheValue, IsSet, set_number}
 use Rattle.timed_core.specs.declared.noted_sets.SetNote.{SetNote}
@@ -32,6 +32,10 @@ abbrev pub is_noted : ℕ → List SetNote → Bool
 is_noted set [] = false
 is_noted set (note ∷ journal) = (note.set == set) || is_noted set journal
 
+-- the numbers of the sets of a journal, in its order
+abbrev pub sets_noted : List SetNote → List ℕ
+sets_noted journal = map (λ note. note.set) journal
+
 -- how many flags are up
 abbrev pub count_up : List Bool → ℕ
 count_up [] = 0
@@ -62,6 +66,7 @@ pub record IsReadyFor (line : ℕ) (marked : Bool) (before after : SetsValue) : 
   pub noted : marked ≡ true → is_noted (set_number before.cache line) after.journal ≡ true
   pub room : after.room ≡ before.room
   pub unmarked : marked ≡ false → after.journal ≡ before.journal
+  pub one : length after.journal ≤ length before.journal + 1
 
 -- where there is a mark, there is room for a note of each set; where there is none, nothing is noted
 pub record HasRoom (marked : Bool) (s : SetsValue) : Type 0 where

@@ -17,8 +17,8 @@ use slack_base::{Config, CoreEnd, Counts, OutOfMemory, Trap, raised};
 use std::alloc::Global;
 use std::marker::Model;
 
-/// A hart with its cache. A contract sees the record of its fields, and the cache with its touches as they were at its
-/// mark.
+/// A hart with its cache. A contract sees the record of its fields, the cache with its touches as they were at its mark,
+/// and the numbers of the sets that were noted since.
 #[derive(Drop)]
 pub struct Hart {
     number: u32,
@@ -56,6 +56,7 @@ impl Model for Hart {
         counts = c.counts;
       };
       saved = c.cache.saved;
+      noted = c.cache.noted;
     } };
 
     ghost invariant = { λ c. IsBy TOP c.ended };
@@ -70,20 +71,21 @@ fn line_number(base: u32, address: u32) -> u32
 }
 
 impl Hart {
-    ghost use Rattle.std.specs.Prelude.{◌≡◌, ◌+◌, ◌<◌, ◌≤◌, ◌%◌, IfOk, IfSome, None, OnErr, OnOk, Some, slice_index};
+    ghost use Rattle.std.specs.Prelude.{◌≡◌, ◌+◌, ◌<◌, ◌≤◌, ◌%◌, [], IfOk, IfSome, None, OnErr, OnOk, Some, length, slice_index};
     ghost use Rattle.slack_base.specs.declared.bounds.TheConstants.{TOP};
     ghost use Rattle.slack_base.specs.Numbers.{numbers_of};
     ghost use Rattle.timed_core.specs.Accesses.{held_in};
     ghost use Rattle.timed_core.specs.Noting.{AreNotedSince};
     ghost use Rattle.timed_core.specs.Parts.{hart_of, parts_of};
-    ghost use Rattle.timed_core.specs.TouchedCaches.{cache_of};
+    ghost use Rattle.timed_core.specs.TouchedCaches.{cache_of, IsPrepared};
+    ghost use Rattle.timed_core.specs.Views.{cache_in};
     ghost use Rattle.timed_core.specs.Touches.{touch_of, touched_at};
     ghost use Rattle.timed_core.specs.Cores.{IsBy, first_core, is_running, with_register, completed, goes_on, gives, trapped};
 
     /// A hart before the first cycle.
     pub fn new(alloc: Global, number: u32, config: &Config, entry: u32) -> Result<Hart, OutOfMemory>
         requires { number < config.now.cores }
-        ensures { IfOk result (λ hart. hart ≡ record { value = first_core (numbers_of config.now) entry number; saved = None }) }
+        ensures { IfOk result (λ hart. hart ≡ record { value = first_core (numbers_of config.now) entry number; saved = None; noted = [] }) }
     {
         let end = u64::from(config.base) + u64::from(config.memory);
         let mut registers = [0; 32];
@@ -128,7 +130,7 @@ impl Hart {
 
     /// Marks the cache with its touches. The rest of the hart is to be kept by the caller.
     pub fn mark(&mut self) -> Result<(), OutOfMemory>
-        ensures ok { OnOk result (self.new ≡ record { value = self.old.value; saved = Some (cache_of self.old.value) }) }
+        ensures ok { OnOk result (self.new ≡ record { value = self.old.value; saved = Some (cache_of self.old.value); noted = [] }) }
         ensures err { OnErr result (self.new ≡ self.old) }
     {
         self.cache.mark()
@@ -138,6 +140,7 @@ impl Hart {
     pub fn undo(&mut self, parts: &Parts)
         ensures marked { IfSome self.old.saved (λ cache. self.new.value ≡ hart_of parts.now cache) }
         ensures saved { self.new.saved ≡ None }
+        ensures noted { self.new.noted ≡ [] }
     {
         self.cache.undo();
         self.take_parts(parts);
@@ -159,14 +162,15 @@ impl Hart {
 
     /// Gives up the mark, and leaves the hart as it is.
     pub fn keep(&mut self)
-        ensures { self.new ≡ record { value = self.old.value; saved = None } }
+        ensures { self.new ≡ record { value = self.old.value; saved = None; noted = [] } }
     {
         self.cache.keep();
     }
 
     /// How many sets of the cache were noted since the mark.
     pub fn noted(&self) -> u64
-        ensures { IfSome self.now.saved (λ cache. AreNotedSince cache (cache_of self.now.value) result) }
+        ensures count { result ≡ length self.now.noted }
+        ensures since { IfSome self.now.saved (λ cache. AreNotedSince cache (cache_of self.now.value) result) }
     {
         self.cache.noted()
     }
@@ -210,10 +214,22 @@ impl Hart {
         self.cache.touch_of(line)
     }
 
+    /// Makes the set of a line and its touch ready to change.
+    #[inline(always)]
+    fn prepare(&mut self, line: u32)
+        ensures value { self.new.value ≡ self.old.value }
+        ensures saved { self.new.saved ≡ self.old.saved }
+        ensures prepared { IsPrepared line (cache_in self.new) }
+        ensures noted { length self.new.noted ≤ length self.old.noted + 1 }
+    {
+        self.cache.prepare(line);
+    }
+
     /// Touches the set of a line at a cycle.
     #[inline(always)]
     fn touch(&mut self, line: u32, cycle: u64)
-        requires { cycle ≤ TOP }
+        requires top { cycle ≤ TOP }
+        requires prepared { IsPrepared line (cache_in self.old) }
         ensures { self.new ≡ record self.old { value = touched_at cycle line self.old.value } }
     {
         self.cache.touch(line, cycle);

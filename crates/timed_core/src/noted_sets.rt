@@ -103,6 +103,7 @@ impl NotedSets {
         ensures kept_touches { restored_touches self.new.touches self.new.journal ≡ restored_touches self.old.touches self.old.journal }
         ensures noted { is_noted (set_number self.old.cache line) self.new.journal ≡ true }
         ensures room { self.new.room ≡ self.old.room }
+        ensures one { length self.new.journal ≤ length self.old.journal + 1 }
     {
         let set = self.cache.set_of(line);
         if self.flags[set as usize] {
@@ -130,7 +131,8 @@ impl NotedSets {
     #[inline(always)]
     pub fn touch(&mut self, line: u32, cycle: u64)
         requires { cycle ≤ TOP }
-        ensures { self.new ≡ record self.old { touches = touch_line cycle self.old.touches line } }
+        ensures after { self.new ≡ record self.old { touches = touch_line cycle self.old.touches line } }
+        ensures each { length self.old.touches ≡ length self.old.cache.sets }
     {
         let set = self.cache.set_of(line);
         self.touches[set as usize] = cycle + 1;

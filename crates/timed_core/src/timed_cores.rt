@@ -1,5 +1,5 @@
 //! A core and its tick.
-ghost use Rattle.std.specs.Prelude.{◌≡◌, ◌≤◌, ◌++◌, nat_le, nat_lt, filter, OnOk};
+ghost use Rattle.std.specs.Prelude.{◌≡◌, ◌+◌, ◌≤◌, ◌++◌, nat_le, nat_lt, filter, length, OnOk};
 ghost use Rattle.slack_base.specs.declared.bounds.TheConstants.{TOP};
 ghost use Rattle.timed_core.specs.Ticks.{asks_of, id_at, applied_all};
 
@@ -13,7 +13,8 @@ use std::alloc::Global;
 use std::marker::Model;
 
 /// A core: its registers, its cache, what is counted of it, and the posts that wait for it; and what leads back to the
-/// core as it was at its mark, where it is marked. The readers tell of the core as it is now.
+/// core as it was at its mark, where it is marked. The readers tell of the core as it is now. A contract also sees the
+/// numbers of the sets of its cache that were noted since the mark.
 #[derive(Drop)]
 pub struct TimedCore {
     hart: Hart,
@@ -22,27 +23,24 @@ pub struct TimedCore {
 }
 
 impl Model for TimedCore {
-    ghost use Rattle.slack_base.specs.Inboxes.{CoreValue};
-    ghost use Rattle.slack_base.specs.Marks.{Marked};
     ghost use Rattle.std.specs.Prelude.{◌≡◌, is_some};
-    ghost use Rattle.timed_core.specs.Cores.{HartValue};
-    ghost use Rattle.timed_core.specs.Views.{core_then};
+    ghost use Rattle.timed_core.specs.Views.{core_then, MarkedCore};
 
-    ghost Value = { Marked (CoreValue HartValue) };
+    ghost Value = { MarkedCore };
 
-    ghost view = { λ c. record { value = record { inner = c.hart.value; inbox = c.inbox }; saved = core_then c.saved c.hart.saved } };
+    ghost view = { λ c. record { value = record { inner = c.hart.value; inbox = c.inbox }; saved = core_then c.saved c.hart.saved; noted = c.hart.noted } };
 
     ghost invariant = { λ c. is_some c.saved ≡ is_some c.hart.saved };
 }
 
 impl TimedCore {
-    ghost use Rattle.std.specs.Prelude.{◌≡◌, ◌+◌, ◌-◌, ◌<◌, ◌≤◌, ◌++◌, [], IfNone, IfOk, IfSome, IsSome, OnOk, OnErr, None, Some, not, slice_index};
+    ghost use Rattle.std.specs.Prelude.{◌≡◌, ◌+◌, ◌-◌, ◌<◌, ◌≤◌, ◌++◌, [], IfNone, IfOk, IfSome, IsSome, OnOk, OnErr, None, Some, length, not, slice_index};
     ghost use Rattle.slack_base.specs.Numbers.{numbers_of};
     ghost use Rattle.slack_base.specs.Inboxes.{with_put, tick_by, ticks_by};
     ghost use Rattle.slack_base.specs.declared.bounds.TheConstants.{TOP};
     ghost use Rattle.timed_core.specs.Accesses.{held_in};
     ghost use Rattle.timed_core.specs.Code.{CodeValue};
-    ghost use Rattle.timed_core.specs.Noting.{AreNotedSince};
+    ghost use Rattle.timed_core.specs.Noting.{AreNotedSince, work, works};
     ghost use Rattle.timed_core.specs.Cores.{IsBy, first_core, is_running};
     ghost use Rattle.timed_core.specs.Stretches.{AreTicks, quiet_of};
     ghost use Rattle.timed_core.specs.Ticks.{tick};
@@ -57,7 +55,7 @@ impl TimedCore {
         entry: u32,
     ) -> Result<TimedCore, OutOfMemory>
         requires { number < config.now.cores }
-        ensures { IfOk result (λ core. core ≡ record { value = record { inner = first_core (numbers_of config.now) entry number; inbox = [] }; saved = None }) }
+        ensures { IfOk result (λ core. core ≡ record { value = record { inner = first_core (numbers_of config.now) entry number; inbox = [] }; saved = None; noted = [] }) }
     {
         Ok(TimedCore {
             hart: Hart::new(alloc, number, config, entry)?,
@@ -135,6 +133,7 @@ impl TimedCore {
     pub fn put(&mut self, post: Post) -> Result<(), OutOfMemory>
         ensures ok { OnOk result (self.new.value ≡ with_put post self.old.value) }
         ensures saved { self.new.saved ≡ self.old.saved }
+        ensures noted { self.new.noted ≡ self.old.noted }
         ensures err { OnErr result (self.new ≡ self.old) }
     {
         self.inbox.put(post)
@@ -152,12 +151,14 @@ impl TimedCore {
     /// One tick at a cycle: the posts that are due are applied in their order, and then the core does nothing if it
     /// has ended, spends a cycle if it is busy or waits for a line, and else executes an instruction. The asks that
     /// it sends are appended, numbered from 0. `code` is the instruction memory of the core's machine, and tells which
-    /// addresses are in memory too. After want of memory the core may be changed in part, and is only to be dropped or
-    /// taken back to its mark.
+    /// addresses are in memory too. A marked core notes no more sets of its cache than it applies posts and executes
+    /// instructions. After want of memory the core may be changed in part, and is only to be dropped or taken back to its
+    /// mark.
     pub fn tick(&mut self, code: &Code, cycle: u64, out: &mut AskList) -> Result<(), OutOfMemory>
         requires { cycle ≤ TOP }
         ensures core { OnOk result (self.new.value ≡ (tick_by (tick code.now) cycle self.old.value).0) }
         ensures saved { self.new.saved ≡ self.old.saved }
+        ensures noted { OnOk result (length self.new.noted ≤ length self.old.noted + work code.now cycle self.old.value) }
         ensures asks { OnOk result (out.new ≡ out.old ++ (tick_by (tick code.now) cycle self.old.value).1) }
     {
         self.part(code, cycle, cycle + 1, out)?;
@@ -175,6 +176,7 @@ impl TimedCore {
         requires { cycle ≤ TOP }
         ensures core { OnOk result (self.new.value ≡ (tick_by (tick code.now) cycle self.old.value).0) }
         ensures saved { self.new.saved ≡ self.old.saved }
+        ensures noted { OnOk result (length self.new.noted ≤ length self.old.noted + work code.now cycle self.old.value) }
         ensures asks { OnOk result (out.new ≡ out.old ++ (tick_by (tick code.now) cycle self.old.value).1) }
     {
         let before = out.len();
@@ -186,7 +188,8 @@ impl TimedCore {
 
     /// Ticks from a cycle on, one after another, with no new post: up to the cycle `until`, or up to the first in which
     /// it sends something, which is then the last. The answer is the cycle after them. Asks are appended, numbered
-    /// from 0 in their cycle. After want of memory the core may be changed in part, as after that of a tick.
+    /// from 0 in their cycle. A marked core notes no more sets of its cache than it applies posts and executes
+    /// instructions. After want of memory the core may be changed in part, as after that of a tick.
     pub fn advance(
         &mut self,
         code: &Code,
@@ -204,6 +207,7 @@ impl TimedCore {
         // and where there are fewer than might be, it did.
         ensures sent { IfOk result (λ r. r < until → ¬ ((ticks_by (tick code.now) from (r - from) self.old.value).1 ≡ [])) }
         ensures saved { self.new.saved ≡ self.old.saved }
+        ensures noted { IfOk result (λ r. length self.new.noted ≤ length self.old.noted + works code.now from (r - from) self.old.value) }
     {
         let before = out.len();
         let mut next = from;
@@ -228,6 +232,7 @@ impl TimedCore {
         ensures reached { IfOk result (λ r. (from < r) × (r ≤ until)) }
         ensures ticks { IfOk result (λ r. AreTicks code.now from r self.old.value self.new.value out.old out.new) }
         ensures saved { self.new.saved ≡ self.old.saved }
+        ensures noted { IfOk result (λ r. length self.new.noted ≤ length self.old.noted + works code.now from (r - from) self.old.value) }
     {
         let due = self.inbox.next_due();
         if due <= from {
@@ -255,10 +260,11 @@ impl TimedCore {
     }
 
     /// Marks the core as it is now: all of it but its cache and its touches is copied, and from then on what a set of the
-    /// cache holds and its touch are noted before either first changes. Room for the notes is made here, so that a marked core's ticks want no more
-    /// memory than others. An older mark is replaced; where there is no memory for the new one, nothing changes.
+    /// cache holds and its touch are noted before either first changes. Room for the notes is made here, so that a marked
+    /// core's ticks want no more memory than others. An older mark is replaced; where there is no memory for the new one,
+    /// nothing changes.
     pub fn mark(&mut self) -> Result<(), OutOfMemory>
-        ensures ok { OnOk result (self.new ≡ record { value = self.old.value; saved = Some self.old.value }) }
+        ensures ok { OnOk result (self.new ≡ record { value = self.old.value; saved = Some self.old.value; noted = [] }) }
         ensures err { OnErr result (self.new ≡ self.old) }
     {
         let saved = Saved::of(&self.hart, &self.inbox)?;
@@ -272,16 +278,20 @@ impl TimedCore {
         ensures marked { IfSome self.old.saved (λ v. self.new.value ≡ v) }
         ensures unmarked { IfNone self.old.saved (self.new.value ≡ self.old.value) }
         ensures saved { self.new.saved ≡ None }
+        ensures noted { self.new.noted ≡ [] }
     {
-        if let Some(saved) = self.saved.take() {
-            self.hart.undo(&saved.parts);
-            self.inbox = saved.inbox;
+        match self.saved.take() {
+            Some(saved) => {
+                self.hart.undo(&saved.parts);
+                self.inbox = saved.inbox;
+            }
+            None => self.hart.keep(),
         }
     }
 
     /// Gives up the mark, and leaves the core as it is. It takes no memory.
     pub fn keep(&mut self)
-        ensures { self.new ≡ record { value = self.old.value; saved = None } }
+        ensures { self.new ≡ record { value = self.old.value; saved = None; noted = [] } }
     {
         self.saved = None;
         self.hart.keep();
@@ -290,7 +300,8 @@ impl TimedCore {
     /// How many sets of its cache a marked core has noted.
     pub fn noted(&self) -> u64
         requires { IsSome self.now.saved }
-        ensures { IfSome self.now.saved (λ saved. AreNotedSince (cache_of saved.inner) (cache_of self.now.value.inner) result) }
+        ensures count { result ≡ length self.now.noted }
+        ensures since { IfSome self.now.saved (λ saved. AreNotedSince (cache_of saved.inner) (cache_of self.now.value.inner) result) }
     {
         self.hart.noted()
     }
@@ -307,6 +318,7 @@ fn apply_due(
     requires { cycle ≤ TOP }
     ensures hart { OnOk result (hart.new.value ≡ (applied_all base cycle 0 hart.old.value (filter (λ p. nat_le p.due cycle) inbox.old)).0) }
     ensures saved { hart.new.saved ≡ hart.old.saved }
+    ensures noted { length hart.new.noted ≤ length hart.old.noted + length (filter (λ p. nat_le p.due cycle) inbox.old) }
     ensures inbox { OnOk result (inbox.new ≡ filter (λ p. nat_lt cycle p.due) inbox.old) }
     ensures asks { OnOk result (out.new ≡ out.old ++ (applied_all base cycle 0 hart.old.value (filter (λ p. nat_le p.due cycle) inbox.old)).1) }
 {

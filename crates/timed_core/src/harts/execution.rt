@@ -1,5 +1,5 @@
 //! What a hart does in a cycle in which it executes an instruction.
-ghost use Rattle.std.specs.Prelude.{◌≡◌, ◌≤◌, None};
+ghost use Rattle.std.specs.Prelude.{◌≡◌, ◌≤◌, ◌+◌, None, length};
 ghost use Rattle.slack_base.specs.declared.bounds.TheConstants.{TOP};
 ghost use Rattle.timed_core.specs.Code.{word_at, instr_at};
 ghost use Rattle.timed_core.specs.Outcomes.{IsReady, DoesAt};
@@ -19,6 +19,7 @@ impl Hart {
         requires ready { IsReady self.old.value }
         ensures does { DoesAt (λ id. fetched code.now (word_at code.now self.old.value.pc) id self.old.value) cycle self.old.value self.new.value result }
         ensures saved { self.new.saved ≡ self.old.saved }
+        ensures noted { length self.new.noted ≤ length self.old.noted + 1 }
     {
         let mut room = Kept::Nothing;
         let kept = code.kept(self.pc, &mut room);
@@ -38,6 +39,7 @@ impl Hart {
         requires none { instr_at code.now self.old.value.pc ≡ None }
         ensures does { DoesAt (λ id. fetched code.now (word_at code.now self.old.value.pc) id self.old.value) cycle self.old.value self.new.value Outcome.Rests }
         ensures saved { self.new.saved ≡ self.old.saved }
+        ensures noted { self.new.noted ≡ self.old.noted }
     {
         let trap = match code.word(self.pc) {
             Some(bits) => Trap::Illegal { bits },

@@ -1,5 +1,5 @@
 //! What an access to memory does to a hart: it hits or misses its line, fails or ends the hart.
-ghost use Rattle.std.specs.Prelude.{◌≡◌, ◌≤◌, ◌<◌, ◌%◌, ℕ, Some, IsTrue};
+ghost use Rattle.std.specs.Prelude.{◌≡◌, ◌≤◌, ◌<◌, ◌+◌, ◌%◌, ℕ, Some, IsTrue, length};
 ghost use Rattle.slack_base.specs.declared.bounds.TheConstants.{TOP};
 ghost use Rattle.mesi_cache.specs.Caches.{read_line, write_line};
 ghost use Rattle.mesi_cache.specs.Lines.{may_write};
@@ -8,6 +8,8 @@ ghost use Rattle.timed_core.specs.Accesses.{is_aligned, hits, word_in_line, with
 ghost use Rattle.timed_core.specs.Cores.{line_number};
 ghost use Rattle.timed_core.specs.Effects.{WritesRegister};
 ghost use Rattle.timed_core.specs.Outcomes.{IsReady, DoesAt};
+ghost use Rattle.timed_core.specs.TouchedCaches.{IsPrepared};
+ghost use Rattle.timed_core.specs.Views.{cache_in};
 
 use crate::accesses::Access;
 use crate::code::Code;
@@ -28,7 +30,7 @@ fn word_in_line(address: u32) -> u32
 
 impl Hart {
     /// Accesses memory: alignment is checked first, then that the address is in memory. An access that passes both touches
-    /// its line's set.
+    /// its line's set, which is noted first.
     #[inline(always)]
     #[tactic(auto, unfolding(crate::specs::Accesses::accessed))]
     pub fn access(&mut self, code: &Code, access: Access, address: u32, cycle: u64) -> Outcome
@@ -37,6 +39,7 @@ impl Hart {
         requires register { WritesRegister access }
         ensures does { DoesAt (λ id. accessed code.now access address 1 id self.old.value) cycle self.old.value self.new.value result }
         ensures saved { self.new.saved ≡ self.old.saved }
+        ensures noted { length self.new.noted ≤ length self.old.noted + 1 }
     {
         if !access.is_aligned(address) {
             self.trap_misaligned(cycle, address);
@@ -47,6 +50,7 @@ impl Hart {
             return Outcome::Rests;
         }
         let line = code.offset(address) / 16;
+        self.prepare(line);
         self.touch(line, cycle);
         self.try_access(access, line, address, cycle)
     }
@@ -58,8 +62,10 @@ impl Hart {
         requires ready { IsReady self.old.value }
         requires aligned { IsTrue (is_aligned access (address % 4)) }
         requires register { WritesRegister access }
+        requires prepared { IsPrepared line (cache_in self.old) }
         ensures does { (base : ℕ) → line ≡ line_number base address → DoesAt (λ id. tried access base address 1 id self.old.value) cycle self.old.value self.new.value result }
         ensures saved { self.new.saved ≡ self.old.saved }
+        ensures noted { self.new.noted ≡ self.old.noted }
     {
         match access {
             Access::StoreConditional { rd, .. } => {
@@ -90,8 +96,10 @@ impl Hart {
         requires ready { IsReady self.old.value }
         requires aligned { IsTrue (is_aligned access (address % 4)) }
         requires register { WritesRegister access }
+        requires prepared { IsPrepared line (cache_in self.old) }
         ensures does { (base : ℕ) → line ≡ line_number base address → DoesAt (λ id. looked_up (held_in self.old.value.cache line) access base address 1 id self.old.value) cycle self.old.value self.new.value result }
         ensures saved { self.new.saved ≡ self.old.saved }
+        ensures noted { self.new.noted ≡ self.old.noted }
     {
         let Some(found) = self.cache.find(line) else {
             return self.miss(access, line);
@@ -112,8 +120,10 @@ impl Hart {
         requires hits { IsTrue (hits access found.held) }
         requires aligned { IsTrue (is_aligned access (address % 4)) }
         requires register { WritesRegister access }
+        requires prepared { IsPrepared found.line (cache_in self.old) }
         ensures after { (base : ℕ) → found.line ≡ line_number base address → self.new.value ≡ hit access base address old 1 self.old.value }
         ensures saved { self.new.saved ≡ self.old.saved }
+        ensures noted { self.new.noted ≡ self.old.noted }
         ensures outcome { result ≡ Outcome.Ready }
     {
         match access {
@@ -145,7 +155,8 @@ impl Hart {
     /// Reads a word of the line that was found: the line becomes the most recent of its set.
     #[inline(always)]
     fn read_at(&mut self, found: Found)
-        requires { IsFoundIn self.old.value.cache found }
+        requires found { IsFoundIn self.old.value.cache found }
+        requires prepared { IsPrepared found.line (cache_in self.old) }
         ensures { self.new ≡ record self.old { value = with_access self.old.value (read_line self.old.value.cache found.line) } }
     {
         self.cache.use_found(found);
@@ -158,6 +169,7 @@ impl Hart {
     fn write_at(&mut self, found: Found, address: u32, value: u32)
         requires found { IsFoundIn self.old.value.cache found }
         requires writable { IsTrue (may_write found.held) }
+        requires prepared { IsPrepared found.line (cache_in self.old) }
         ensures { self.new ≡ record self.old { value = with_access self.old.value (write_line self.old.value.cache found.line (word_in_line address) value) } }
     {
         self.cache.write_found(found, word_in_line(address), value);
@@ -169,6 +181,7 @@ impl Hart {
     fn miss(&mut self, access: Access, line: u32) -> Outcome
         ensures does { (cycle : ℕ) → DoesAt (λ id. missed access id line self.old.value) cycle self.old.value self.new.value result }
         ensures saved { self.new.saved ≡ self.old.saved }
+        ensures noted { self.new.noted ≡ self.old.noted }
     {
         self.waiting = true;
         self.counts.misses = raised(self.counts.misses);

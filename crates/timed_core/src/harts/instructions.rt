@@ -1,6 +1,6 @@
 //! What an instruction does to a hart, as its page of the manual says (RISC-V Unprivileged ISA 20191213, chapters 2, 7
 //! and 8).
-ghost use Rattle.std.specs.Prelude.{◌≡◌, ◌<◌, ◌≤◌, IsSomeAnd};
+ghost use Rattle.std.specs.Prelude.{◌≡◌, ◌<◌, ◌≤◌, ◌+◌, IsSomeAnd, length};
 ghost use Rattle.slack_base.specs.declared.bounds.TheConstants.{TOP};
 ghost use Rattle.rv_decode.specs.Ranges.{IsInRange};
 ghost use Rattle.timed_core.specs.Code.{CodeValue};
@@ -38,6 +38,7 @@ impl Hart {
         requires kept { IsSomeAnd (instr_in kept.now) IsInRange }
         ensures does { DoesAt (λ id. executed code.now (instr_in kept.now) id self.old.value) cycle self.old.value self.new.value result }
         ensures saved { self.new.saved ≡ self.old.saved }
+        ensures noted { length self.new.noted ≤ length self.old.noted + 1 }
     {
         match *kept {
             Kept::Nothing => unreachable!(),
@@ -104,6 +105,7 @@ impl Hart {
         requires register { rd < 32 }
         ensures does { (code : CodeValue) → DoesAt (λ id. performed code (goes_to target (Jump rd target)) 1 id self.old.value) cycle self.old.value self.new.value result }
         ensures saved { self.new.saved ≡ self.old.saved }
+        ensures noted { self.new.noted ≡ self.old.noted }
     {
         if target % 4 != 0 {
             self.trap_target(cycle, target);
@@ -122,6 +124,7 @@ impl Hart {
         requires registers { (rs1 < 32) × (rs2 < 32) }
         ensures does { (code : CodeValue) → DoesAt (λ id. performed code (branching op rs1 rs2 target self.old.value.registers) 1 id self.old.value) cycle self.old.value self.new.value result }
         ensures saved { self.new.saved ≡ self.old.saved }
+        ensures noted { self.new.noted ≡ self.old.noted }
     {
         if !branch_taken(op, self.x(rs1), self.x(rs2)) {
             return self.go_on();
@@ -140,6 +143,7 @@ impl Hart {
         requires { cycle ≤ TOP }
         ensures does { DoesAt (λ id. called 4 id self.old.value) cycle self.old.value self.new.value result }
         ensures saved { self.new.saved ≡ self.old.saved }
+        ensures noted { self.new.noted ≡ self.old.noted }
     {
         let service = self.registers[17];
         let argument = self.registers[10];

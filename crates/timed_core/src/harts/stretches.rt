@@ -1,7 +1,8 @@
 //! Cycles of a hart in which no post is due: those in which it executes nothing are gone over in one step.
-ghost use Rattle.std.specs.Prelude.{◌≡◌, ◌+◌, ◌-◌, ◌<◌, ◌≤◌, true, ℕ};
+ghost use Rattle.std.specs.Prelude.{◌≡◌, ◌+◌, ◌-◌, ◌<◌, ◌≤◌, true, length, ℕ};
 ghost use Rattle.slack_base.specs.Growing.{capped};
 ghost use Rattle.slack_base.specs.declared.bounds.TheConstants.{TOP};
+ghost use Rattle.timed_core.specs.Noting.{executions};
 ghost use Rattle.timed_core.specs.Outcomes.{IsReady, asks};
 ghost use Rattle.timed_core.specs.Stretches.{IsStretch, IsLeap};
 
@@ -24,6 +25,7 @@ impl Hart {
         ensures within { result ≤ most }
         ensures leap { IsLeap result self.old.value self.new.value }
         ensures saved { self.new.saved ≡ self.old.saved }
+        ensures noted { self.new.noted ≡ self.old.noted }
         ensures number { self.new.value.number ≡ self.old.value.number }
         ensures ready { result ≡ 0 → IsReady self.new.value }
     {
@@ -64,6 +66,7 @@ impl Hart {
         ensures next { (from < result.next) × (result.next ≤ until) }
         ensures stretch { (number : ℕ) → IsStretch code.now number from self.old.value self.new.value result }
         ensures saved { self.new.saved ≡ self.old.saved }
+        ensures noted { (number : ℕ) → length self.new.noted ≤ length self.old.noted + executions code.now number from (result.next - from) self.old.value }
         ensures stops { result.next < until → asks result.outcome ≡ true }
     {
         let mut next = from;
@@ -89,6 +92,7 @@ impl Hart {
         ensures next { (from < result.next) × (result.next ≤ until) }
         ensures stretch { (number : ℕ) → IsStretch code.now number from self.old.value self.new.value result }
         ensures saved { self.new.saved ≡ self.old.saved }
+        ensures noted { (number : ℕ) → length self.new.noted ≤ length self.old.noted + executions code.now number from (result.next - from) self.old.value }
     {
         let gone = self.leap(until - from);
         if gone > 0 {
@@ -110,6 +114,7 @@ impl Hart {
         ensures next { (from < result.next) × (result.next ≤ until) }
         ensures stretch { (number : ℕ) → IsStretch code.now number from self.old.value self.new.value result }
         ensures saved { self.new.saved ≡ self.old.saved }
+        ensures noted { (number : ℕ) → length self.new.noted ≤ length self.old.noted + executions code.now number from (result.next - from) self.old.value }
     {
         let mut next = from;
         loop {

@@ -3,8 +3,8 @@ use Rattle.std.specs.List.{All}
 use Rattle.std.proofs.lemmas.List.FromFn.{map-range_with_len_more}
 use Rattle.slack_base.specs.Numbers.{numbers_of}
 use Rattle.lockstep_model.specs.Start.{first_core_value}
-use Rattle.lockstep_model.specs.Views.{values_of}
-use Rattle.lockstep_model.proofs.FirstState.{values_more, unmarked_more}
+use Rattle.lockstep_model.specs.Views.{cores_of}
+use Rattle.lockstep_model.proofs.FirstState.{cores_more, cores_unmarked_more}
 use Rattle.lockstep_model.proofs.starting.first_cores.Goals as goal
 
 pub loop-number-preserved : goal.loop-number-preserved
@@ -15,9 +15,9 @@ loop-number-preserved c =
     let is_new = c.in_ok-new.ensures in
     record {
       cores =
-          ap values_of c.in_ok-push.ensures.ok ∙ values_more c.loop-number.cores core _ (f n) c.loop-number.invariant.cores (ap (λ core. core.value) is_new)
+          ap cores_of c.in_ok-push.ensures.ok ∙ cores_more c.loop-number.cores core _ (f n) c.loop-number.invariant.cores (ap (λ core. core.value) is_new)
           ∙ sym (map-range_with_len_more f 0 n n (omega arith));
       unmarked =
           subst (All (λ core. core.saved ≡ None)) (sym c.in_ok-push.ensures.ok)
-          (unmarked_more c.loop-number.cores core c.loop-number.invariant.unmarked (ap (λ core. core.saved) is_new));
+          (cores_unmarked_more c.loop-number.cores core c.loop-number.invariant.unmarked (ap (λ core. core.saved) is_new));
     }

@@ -19,7 +19,9 @@ returns-clause-does c = λ number.
     let inside : is_in_memory code address ≡ true = search rules in
     let line : c.offset-line.result / 16 ≡ line_number code.base address = search rules in
     let touched : c.touch.new.self.value ≡ touched_at c.args.cycle (line_number code.base address) core =
-    ap (λ (h : NotedHart). h.value) c.touch.ensures ∙ ap (λ n. touched_at c.args.cycle n core) line in
+    ap (λ (h : NotedHart). h.value) c.touch.ensures
+    ∙ ap (λ n. touched_at c.args.cycle n c.prepare.new.self.value) line
+    ∙ ap (touched_at c.args.cycle (line_number code.base address)) c.prepare.ensures.value in
     let does : DoesAt (λ i. tried c.args.access code.base address 1 i (touched_at c.args.cycle (line_number code.base address) core)) c.args.cycle
     (touched_at c.args.cycle (line_number code.base address) core) c.try_access.new.self.value c.try_access.result =
     subst (λ (h : HartValue). DoesAt (λ i. tried c.args.access code.base address 1 i h) c.args.cycle h c.try_access.new.self.value c.try_access.result)

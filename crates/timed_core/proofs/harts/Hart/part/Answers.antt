@@ -1,4 +1,6 @@
-use Rattle.std.proofs.Common.{◌≡◌, ◌∙◌, sym, ap, subst, arith, rules}
+use Rattle.std.proofs.Common.{◌≡◌, ◌∙◌, ◌+◌, ◌-◌, ◌≤◌, ℕ, length, sym, ap, subst, arith, rules}
+use Rattle.timed_core.specs.Cores.{HartValue}
+use Rattle.timed_core.specs.Noting.{executions}
 use Rattle.timed_core.specs.Stretches.{stretch, IsStretch}
 use Rattle.timed_core.proofs.Stretches.{leap_stretch}
 use Rattle.timed_core.proofs.harts.Hart.part.Goals as goal
@@ -7,11 +9,26 @@ pub returns-then-gone-gt0-clause-stretch : goal.returns-then-gone-gt0-clause-str
 returns-then-gone-gt0-clause-stretch c = λ number.
     leap_stretch c.args.code.now number c.args.from c.leap-gone.result c.args.self.now.value c.leap-gone.new.self.value (search rules) c.leap-gone.ensures.number c.leap-gone.ensures.leap
 
-pub returns-clause-stretch : goal.returns-clause-stretch
-returns-clause-stretch c = λ number.
+-- a leap over no cycle
+same : (c : goal.After-run) → c.leap-gone.new.self.value ≡ c.args.self.now.value
+same c =
     let code = c.args.code.now in
     let t = c.args.from in
     let old = c.args.self.now.value in
     let nowhere : c.leap-gone.result ≡ 0 = omega (arith, c.if-gone-gt0.false) in
-    let same : c.leap-gone.new.self.value ≡ old = sym (ap (λ r. r.0) (ap (λ n. stretch code number t n old) (sym nowhere) ∙ c.leap-gone.ensures.leap code number t)) in
-    subst (λ h. IsStretch code number t h c.run.new.self.value c.run.result) same (c.run.ensures.stretch number)
+    sym (ap (λ r. r.0) (ap (λ n. stretch code 0 t n old) (sym nowhere) ∙ c.leap-gone.ensures.leap code 0 t))
+
+pub returns-clause-stretch : goal.returns-clause-stretch
+returns-clause-stretch c = λ number.
+    subst (λ h. IsStretch c.args.code.now number c.args.from h c.run.new.self.value c.run.result) (same c) (c.run.ensures.stretch number)
+
+pub returns-then-gone-gt0-clause-noted : goal.returns-then-gone-gt0-clause-noted
+returns-then-gone-gt0-clause-noted c = λ number.
+    let none : length c.leap-gone.new.self.noted ≡ length c.args.self.now.noted = ap length c.leap-gone.ensures.noted in omega (arith, none)
+
+pub returns-clause-noted : goal.returns-clause-noted
+returns-clause-noted c = λ number.
+    let none : length c.leap-gone.new.self.noted ≡ length c.args.self.now.noted = ap length c.leap-gone.ensures.noted in
+    let executed : HartValue → ℕ = executions c.args.code.now number c.args.from (c.run.result.next - c.args.from) in
+    subst (λ n. length c.run.new.self.noted ≤ n + executed c.args.self.now.value) none
+    (subst (λ h. length c.run.new.self.noted ≤ length c.leap-gone.new.self.noted + executed h) (same c) (c.run.ensures.noted number))

@@ -1,4 +1,5 @@
-use Rattle.std.proofs.Common.{◌≡◌, ◌-◌, ◌<◌, ◌≤◌, ℕ, []}
+use Rattle.std.proofs.Common.{◌≡◌, ◌+◌, ◌-◌, ◌<◌, ◌≤◌, ℕ, [], length}
+use Rattle.timed_core.specs.Noting.{executions}
 use Rattle.timed_core.specs.Outcomes.{IsReady}
 use Rattle.timed_core.specs.Stretches.{stretch}
 use Rattle.timed_core.proofs.harts.Hart.run.Given as goal
@@ -11,6 +12,7 @@ invariant-loop-outcome l = record {
   ready : IsReady l.self.value;
   same : l.self.value.number ≡ l.initial.self.value.number;
   saved : l.self.saved ≡ l.initial.self.saved;
+  noted : (number : ℕ) → length l.self.noted ≤ length l.initial.self.noted + executions l.code number l.from (l.next - l.from) l.initial.self.value;
   silent : (number : ℕ) → stretch l.code number l.from (l.next - l.from) l.initial.self.value ≡ (l.self.value, []);
 }
 

@@ -1,6 +1,6 @@
-use Rattle.std.proofs.Common.{◌≡◌, ◌∙◌, ◌<◌, ◌≤◌, [], List, true, false, length, get_or, refl, sym, ap, subst, arith}
+use Rattle.std.proofs.Common.{◌≡◌, ◌∙◌, ◌+◌, ◌<◌, ◌≤◌, [], List, true, false, length, get_or, refl, sym, ap, subst, arith}
 use Rattle.std.specs.Prelude.{slice_set, vec_capacity}
-use Rattle.std.proofs.lemmas.List.{get_or_read, get_or_default}
+use Rattle.std.proofs.lemmas.List.{get_or_read, get_or_default, length_push}
 use Rattle.mesi_cache.specs.Caches.{set_number}
 use Rattle.timed_core.specs.declared.noted_sets.SetNote.{SetNote}
 use Rattle.timed_core.specs.Journals.{SetsValue, IsFlagged, restored, restored_touches, is_noted}
@@ -65,3 +65,9 @@ returns-clause-noted c =
     c.set_of-set.ensures.number ∙ ap (λ (v : SetsValue). set_number v.cache c.args.line) c.self.view_is in
     ap (λ (js : List SetNote). is_noted (set_number c.args.self.now.cache c.args.line) js) c.push_reserved.ensures.items
     ∙ noted-last (set_number c.args.self.now.cache c.args.line) c.self.inside.journal.items (noted_now c) number
+
+pub returns-clause-one : goal.returns-clause-one
+returns-clause-one c =
+    let pushed : length c.push_reserved.new.self.items ≡ length c.self.inside.journal.items + 1 =
+    ap (λ (js : List SetNote). length js) c.push_reserved.ensures.items ∙ length_push c.self.inside.journal.items (noted_now c) in
+    subst (λ (v : SetsValue). length c.push_reserved.new.self.items ≤ length v.journal + 1) c.self.view_is (omega (arith, pushed))

@@ -1,4 +1,5 @@
-use Rattle.std.proofs.Common.{◌≡◌, ◌-◌, ◌≤◌}
+use Rattle.std.proofs.Common.{◌≡◌, ◌+◌, ◌-◌, ◌≤◌, length}
+use Rattle.timed_core.specs.Noting.{works}
 use Rattle.timed_core.proofs.Stretches.{AreTicksSoFar}
 use Rattle.timed_core.proofs.timed_cores.TimedCore.advance.Given as goal
 
@@ -8,6 +9,7 @@ invariant-loop-next l = record {
   within : l.next ≤ l.until;
   ticks : AreTicksSoFar l.code l.from l.next l.initial.self.value l.self.value l.initial.out l.out;
   saved : l.self.saved ≡ l.initial.self.saved;
+  noted : length l.self.noted ≤ length l.initial.self.noted + works l.code l.from (l.next - l.from) l.initial.self.value;
 }
 
 abbrev pub decreases-loop-next : goal.decreases-loop-next
