@@ -20,6 +20,7 @@ pub struct Stretch {
 
 impl Hart {
     /// Goes over cycles in which no instruction is executed, up to so many: how many they are.
+    #[inline(always)]
     fn leap(&mut self, most: u64) -> u64
         requires { 0 < most }
         ensures within { result ≤ most }
@@ -59,8 +60,30 @@ impl Hart {
         self.counts.waits = capped(self.counts.waits.saturating_add(cycles));
     }
 
-    /// The cycles from one on, up to another, or to the first in which something is asked for. No post is due in them.
+    /// Some of the cycles from one on, up to another: those in which nothing is executed, or else as many as there are up to
+    /// the first in which something is asked for. No post is due in them.
+    #[inline(always)]
     pub fn stretch(&mut self, code: &Code, from: u64, until: u64) -> Stretch
+        requires order { from < until }
+        requires top { until ≤ TOP + 1 }
+        ensures next { (from < result.next) × (result.next ≤ until) }
+        ensures stretch { (number : ℕ) → IsStretch code.now number from self.old.value self.new.value result }
+        ensures saved { self.new.saved ≡ self.old.saved }
+        ensures noted { (number : ℕ) → length self.new.noted ≤ length self.old.noted + executions code.now number from (result.next - from) self.old.value }
+    {
+        let gone = self.leap(until - from);
+        if gone > 0 {
+            return Stretch {
+                next: from + gone,
+                outcome: Outcome::Rests,
+            };
+        }
+        self.long_stretch(code, from, until)
+    }
+
+    /// The cycles from one on, up to another, or to the first in which something is asked for.
+    #[inline(never)]
+    fn long_stretch(&mut self, code: &Code, from: u64, until: u64) -> Stretch
         requires order { from < until }
         requires top { until ≤ TOP + 1 }
         ensures next { (from < result.next) × (result.next ≤ until) }

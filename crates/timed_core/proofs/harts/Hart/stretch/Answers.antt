@@ -1,39 +1,34 @@
-use Rattle.std.proofs.Common.{◌∙◌, ℕ, refl, arith, rules}
-use Rattle.timed_core.specs.Stretches.{IsStretch}
-use Rattle.timed_core.specs.declared.outcomes.Outcome.TheVariants.{Rests}
-use Rattle.timed_core.proofs.Noting.{noted_on}
-use Rattle.timed_core.proofs.Stretches.{silent_stretch, stretch_on, went_on}
+use Rattle.std.proofs.Common.{◌≡◌, ◌∙◌, ◌+◌, ◌-◌, ◌≤◌, ℕ, length, sym, ap, subst, arith, rules}
+use Rattle.timed_core.specs.Cores.{HartValue}
+use Rattle.timed_core.specs.Noting.{executions}
+use Rattle.timed_core.specs.Stretches.{stretch, IsStretch}
+use Rattle.timed_core.proofs.Stretches.{leap_stretch}
 use Rattle.timed_core.proofs.harts.Hart.stretch.Goals as goal
 
-pub returns-then-asks-clause-stretch : goal.returns-then-asks-clause-stretch
-returns-then-asks-clause-stretch c = λ number.
-    stretch_on c.args.code.now number c.args.from c.loop-next.next c.args.self.now.value c.loop-next.self.value c.part-part.new.self.value c.part-part.result
-    c.loop-next.invariant.begun c.part-part.ensures.next.0 c.loop-next.invariant.same (c.loop-next.invariant.silent number) (c.part-part.ensures.stretch number)
+pub returns-then-gone-gt0-clause-stretch : goal.returns-then-gone-gt0-clause-stretch
+returns-then-gone-gt0-clause-stretch c = λ number.
+    leap_stretch c.args.code.now number c.args.from c.leap-gone.result c.args.self.now.value c.leap-gone.new.self.value (search rules) c.leap-gone.ensures.number c.leap-gone.ensures.leap
 
-pub loop-next-preserved : goal.loop-next-preserved
-loop-next-preserved c =
-    let whole : (number : ℕ) → IsStretch c.args.code.now number c.args.from c.args.self.now.value c.part-part.new.self.value c.part-part.result = λ number.
-    stretch_on c.args.code.now number c.args.from c.loop-next.next c.args.self.now.value c.loop-next.self.value c.part-part.new.self.value c.part-part.result
-    c.loop-next.invariant.begun c.part-part.ensures.next.0 c.loop-next.invariant.same (c.loop-next.invariant.silent number) (c.part-part.ensures.stretch number) in
-    record {
-      begun = omega (arith, c.loop-next.invariant.begun, c.part-part.ensures.next.0);
-      within = c.part-part.ensures.next.1;
-      same = (whole 0).same;
-      saved = c.part-part.ensures.saved ∙ c.loop-next.invariant.saved;
-      noted = λ number. noted_on c.args.code.now number c.args.from c.loop-next.next c.part-part.result.next c.args.self.now.value c.loop-next.self.value _ _ _
-          c.loop-next.invariant.begun (omega (arith, c.part-part.ensures.next.0)) (c.loop-next.invariant.silent number) (c.loop-next.invariant.noted number) (c.part-part.ensures.noted number);
-      silent = λ number. went_on c.args.code.now number c.args.from c.args.self.now.value c.part-part.new.self.value c.part-part.result (whole number) (search rules);
-    }
+-- a leap over no cycle
+same : (c : goal.After-long_stretch) → c.leap-gone.new.self.value ≡ c.args.self.now.value
+same c =
+    let code = c.args.code.now in
+    let t = c.args.from in
+    let old = c.args.self.now.value in
+    let nowhere : c.leap-gone.result ≡ 0 = omega (arith, c.if-gone-gt0.false) in
+    sym (ap (λ r. r.0) (ap (λ n. stretch code 0 t n old) (sym nowhere) ∙ c.leap-gone.ensures.leap code 0 t))
 
 pub returns-clause-stretch : goal.returns-clause-stretch
 returns-clause-stretch c = λ number.
-    silent_stretch c.args.code.now number c.args.from c.args.self.now.value c.loop-next.self.value (record { next = c.loop-next.next; outcome = Rests })
-    (omega (arith, c.requires.order, c.loop-next-test.false)) refl c.loop-next.invariant.same (c.loop-next.invariant.silent number)
+    subst (λ h. IsStretch c.args.code.now number c.args.from h c.long_stretch.new.self.value c.long_stretch.result) (same c) (c.long_stretch.ensures.stretch number)
 
-pub returns-then-asks-clause-noted : goal.returns-then-asks-clause-noted
-returns-then-asks-clause-noted c = λ number.
-    noted_on c.args.code.now number c.args.from c.loop-next.next c.part-part.result.next c.args.self.now.value c.loop-next.self.value _ _ _
-    c.loop-next.invariant.begun (omega (arith, c.part-part.ensures.next.0)) (c.loop-next.invariant.silent number) (c.loop-next.invariant.noted number) (c.part-part.ensures.noted number)
+pub returns-then-gone-gt0-clause-noted : goal.returns-then-gone-gt0-clause-noted
+returns-then-gone-gt0-clause-noted c = λ number.
+    let none : length c.leap-gone.new.self.noted ≡ length c.args.self.now.noted = ap length c.leap-gone.ensures.noted in omega (arith, none)
 
 pub returns-clause-noted : goal.returns-clause-noted
-returns-clause-noted c = c.loop-next.invariant.noted
+returns-clause-noted c = λ number.
+    let none : length c.leap-gone.new.self.noted ≡ length c.args.self.now.noted = ap length c.leap-gone.ensures.noted in
+    let executed : HartValue → ℕ = executions c.args.code.now number c.args.from (c.long_stretch.result.next - c.args.from) in
+    subst (λ n. length c.long_stretch.new.self.noted ≤ n + executed c.args.self.now.value) none
+    (subst (λ h. length c.long_stretch.new.self.noted ≤ length c.leap-gone.new.self.noted + executed h) (same c) (c.long_stretch.ensures.noted number))

@@ -1,7 +1,7 @@
 use Rattle.std.proofs.Common.{◌≡◌, ◌+◌, ◌-◌, ◌≤◌, ℕ, [], length}
 use Rattle.timed_core.specs.Noting.{executions}
 use Rattle.timed_core.specs.Stretches.{stretch}
-use Rattle.timed_core.proofs.harts.Hart.stretch.Given as goal
+use Rattle.timed_core.proofs.harts.Hart.long_stretch.Given as goal
 
 -- so far nothing was asked for
 abbrev pub invariant-loop-next : goal.invariant-loop-next
