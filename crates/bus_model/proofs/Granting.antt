@@ -1,5 +1,5 @@
 -- An ask for a line of a bus.
-use Rattle.std.proofs.Common.{◌≡◌, ℕ, ◌+◌, ◌/◌, List, Some, refl, ap}
+use Rattle.std.proofs.Common.{◌≡◌, ℕ, ◌+◌, ◌/◌, List, Some, refl}
 use Rattle.std.specs.Prelude.{count_by, slice_set}
 use Rattle.slack_base.specs.declared.messages.Ask.{Ask}
 use Rattle.slack_base.specs.declared.messages.Post.{Post}
@@ -8,9 +8,8 @@ use Rattle.status_map.specs.declared.views.EntryView.{EntryView}
 use Rattle.status_map.specs.Table.{serve}
 use Rattle.slot_calendar.specs.declared.slots.Slot.{Slot}
 use Rattle.slot_calendar.specs.Asks.{with_ask}
-use Rattle.bus_model.specs.Channels.{BusValue, ChannelValue, AsBus, AsConsole, bus_setting, entry_of}
-use Rattle.bus_model.specs.Serving.{for_bus, is_retry, grant_of, granted, on_line, served}
-use Rattle.bus_model.proofs.Keeping.{setting_kept}
+use Rattle.bus_model.specs.Channels.{BusValue, entry_of}
+use Rattle.bus_model.specs.Serving.{for_bus, is_retry, grant_of, granted, on_line}
 
 pub granted-on_line : (b : BusValue) (ask : Ask) (line : ℕ) (e : EntryView) → entry_of b line ≡ Some e → on_line b ask (Some line) ≡ granted b ask line e
 granted-on_line b ask line e at_line = rw at_line refl
@@ -27,9 +26,3 @@ pub granted-parts : (b : BusValue) (ask : Ask) (line : ℕ) (e : EntryView) (gra
 unfolding granted
 granted-parts b ask line e grant asks retries slots entry posts h_asks h_retries h_entry h_posts h_slots h_grant =
     rw (h_asks, h_retries, h_entry, h_posts, h_slots, h_grant) refl
-
--- an ask changes the setting of no channel
-pub setting_stays : (c : ChannelValue) (ask : Ask) → bus_setting (served c ask).0 ≡ bus_setting c
-unfolding served
-setting_stays (AsBus b) ask = ap Some (setting_kept b ask)
-setting_stays (AsConsole c) ask = refl

@@ -78,9 +78,14 @@ impl Bus {
         })
     }
 
-    /// Serves an ask. The posts are appended.
+    /// Serves an ask. The posts are appended. The batch is room for them, and whatever stands in it is taken out.
     #[tactic(auto, unfolding(crate::specs::Serving::bus_served))]
-    pub(crate) fn serve(&mut self, ask: &Ask, out: &mut PostList) -> Result<(), OutOfMemory>
+    pub(crate) fn serve(
+        &mut self,
+        ask: &Ask,
+        batch: &mut PostBatch,
+        out: &mut PostList,
+    ) -> Result<(), OutOfMemory>
         requires { IsAskOf self.old.value.setting ask.now }
         ensures bus { OnOk result (self.new.value ≡ (bus_served self.old.value ask.now).0) }
         ensures saved { self.new.saved ≡ self.old.saved }
@@ -88,20 +93,18 @@ impl Bus {
     {
         match ask.line() {
             Some(line) => {
-                let mut posts = PostBatch::new();
-                self.grant(ask, line, &mut posts)?;
-                send_all(posts.posts(), out)
+                self.grant(ask, line, batch)?;
+                send_all(batch.posts(), out)
             }
             None => Ok(()),
         }
     }
 
-    /// Grants the bus to an ask for a line of it, and puts the posts into a batch with none. Where it gets no memory for
-    /// that, nothing but its calendar changes.
+    /// Grants the bus to an ask for a line of it, and puts the posts into a batch, in place of what stood there. Where it
+    /// gets no memory for that, nothing but its calendar changes.
     fn grant(&mut self, ask: &Ask, line: u32, out: &mut PostBatch) -> Result<(), OutOfMemory>
         requires ask { IsAskOf self.old.value.setting ask.now }
         requires line { line_of ask.now ≡ Some line }
-        requires empty { out.old ≡ [] }
         ensures bus { OnOk result (self.new.value ≡ (on_line self.old.value ask.now (Some line)).0) }
         ensures saved { self.new.saved ≡ self.old.saved }
         ensures posts { OnOk result (out.new ≡ (on_line self.old.value ask.now (Some line)).1) }
@@ -114,6 +117,7 @@ impl Bus {
             .calendar
             .place(id, id.cycle, self.counters.free, setting.occupancy)?;
         self.lines.prepare(place, self.mark.is_some())?;
+        out.clear();
         self.lines.serve(place, ask, grant, &setting.delays, out);
         self.counters.asks = raised(self.counters.asks);
         self.counters.retries = capped(self.counters.retries + retries_in(out.posts()));

@@ -5,7 +5,7 @@ ghost use Rattle.bus_model.specs.Asks.{channel_of};
 use crate::buses::Bus;
 use crate::consoles::Console;
 use slack_base::{Ask, Config, Id, Image, OutOfMemory, PostList};
-use status_map::EntryView;
+use status_map::{EntryView, PostBatch};
 use std::alloc::Global;
 use std::marker::Model;
 
@@ -15,6 +15,8 @@ use std::marker::Model;
 #[derive(Debug, Drop)]
 pub struct Channel {
     kind: Kind,
+    /// Room for the posts of an ask while it is served, so that none is made for each ask.
+    batch: PostBatch,
 }
 
 #[derive(Debug, Drop)]
@@ -74,6 +76,7 @@ impl Channel {
         let bus = Bus::new(alloc, index, config, image)?;
         Ok(Channel {
             kind: Kind::Bus(bus),
+            batch: PostBatch::new(),
         })
     }
 
@@ -83,6 +86,7 @@ impl Channel {
     {
         Channel {
             kind: Kind::Console(Console::new(alloc)),
+            batch: PostBatch::new(),
         }
     }
 
@@ -96,7 +100,7 @@ impl Channel {
         ensures posts { OnOk result (out.new ≡ out.old ++ (served self.old.value ask.now).1) }
     {
         match &mut self.kind {
-            Kind::Bus(bus) => bus.serve(ask, out),
+            Kind::Bus(bus) => bus.serve(ask, &mut self.batch, out),
             Kind::Console(console) => console.serve(ask),
         }
     }

@@ -1,7 +1,7 @@
 -- Entries with one more, and what the others then say of the grants.
 use Rattle.std.proofs.Common.{◌≡◌, ◌∙◌, ℕ, ◌+◌, ◌-◌, ◌<◌, ◌≤◌, zero, suc, min, max, List, [], ◌∷◌, ◌++◌, length, get_or, set, take, drop, map, insert, refl, sym, ap, subst, arith, add-one, length-take-le, drop-drop, take-append-drop}
 use Rattle.std.specs.List.{AllByRecursion as Each}
-use Rattle.std.proofs.lemmas.List.{take_all, take_at, drop_at, take-append-le, length-map}
+use Rattle.std.proofs.lemmas.List.{take_all, drop_all, take_at, drop_at, take-append-le, length-map}
 use Rattle.slot_calendar.specs.declared.entries.Entry.{Entry}
 use Rattle.slot_calendar.specs.Slots.{IsInOrder, with_slot}
 use Rattle.slot_calendar.specs.Entries.{slots_of, latest_of, earliest_of, AreRunning, AreComing, AreKept, AreClimbing, IsPlace, raised_to, lowered_to, changed_between}
@@ -209,3 +209,42 @@ module _ (place : ℕ) (old : List Entry) (e : Entry) (at : IsPlace e.slot.id pl
     running = running_between e (take place old) (drop place old) (subst (AreRunning 0) (sym (take-append-drop place old)) kept.running) latest;
     coming = coming_between e (take place old) (drop place old) (subst AreComing (sym (take-append-drop place old)) kept.coming) earliest;
   }
+
+-- an entry behind all others
+module _ (old : List Entry) (e : Entry) (at : IsPlace e.slot.id (length old) old) where
+  abbrev pub longer : List Entry
+  longer = grown (length old) old e at
+
+  nothing_behind : drop (length old) old ≡ []
+  nothing_behind = drop_all (length old) old (omega arith)
+
+  all_before : take (length old) old ≡ old
+  all_before = take_all (length old) old (omega arith)
+
+  pushed_is : insert old (length old) e ≡ old ++ e ∷ []
+  pushed_is = ap (λ l. l ++ e ∷ drop (length old) old) all_before ∙ ap (λ l. old ++ e ∷ l) nothing_behind
+
+  half_longer : half (length old) old e at ≡ longer
+  half_longer =
+      ap (λ l. map (lowered_to e.slot.grant) (take (length old) old) ++ e ∷ l)
+      (nothing_behind ∙ sym (ap (map (raised_to e.slot.grant)) nothing_behind))
+
+  pub climbing_pushed : (all : List Entry) (place : ℕ) → place ≡ length old → all ≡ old ++ e ∷ [] → AreComing old → AreClimbing (λ q. q.earliest) (take place all)
+  climbing_pushed all place end is coming =
+      subst (λ l. AreClimbing (λ q. q.earliest) (take place l)) (sym (is ∙ sym pushed_is))
+      (subst (λ n. AreClimbing (λ q. q.earliest) (take n (insert old (length old) e))) (sym end) (climbing_earlier (length old) old e at coming))
+
+  -- what the loop leaves of the list that it was lent
+  pub longer_left : (all left rest : List Entry) (n place : ℕ) → place ≡ length old → all ≡ old ++ e ∷ [] → left ≡ changed_between (lowered_to e.slot.grant) 0 place all → n ≡ length left
+      → take n (left ++ drop (length left) rest) ≡ longer
+  longer_left all left rest n place end is change long =
+      half_left (length old) old e at all left rest n (is ∙ sym pushed_is) (change ∙ ap (λ k. changed_between (lowered_to e.slot.grant) 0 k all) end) long ∙ half_longer
+
+  pub kept-longer : AreKept old → e.latest ≡ max (latest_of 0 old) e.slot.grant → e.earliest ≡ e.slot.grant → AreKept longer
+  kept-longer kept latest earliest =
+      kept-grown (length old) old e at kept
+      (latest ∙ ap (λ l. max (latest_of 0 l) e.slot.grant) (sym all_before))
+      (earliest ∙ sym (ap (earliest_of e.slot.grant) nothing_behind))
+
+  pub slots-longer : slots_of longer ≡ with_slot e.slot (slots_of old)
+  slots-longer = slots-grown (length old) old e at

@@ -8,9 +8,10 @@ use Rattle.slack_base.specs.Stamps.{is_above}
 use Rattle.slot_calendar.specs.declared.entries.Entry.{Entry}
 use Rattle.slot_calendar.specs.Slots.{IsInOrder, greatest_id}
 use Rattle.slot_calendar.specs.Entries.{slots_of, earliest_of, AreRunning, AreComing, AreClimbing, IsPlace}
-use Rattle.slot_calendar.proofs.Ids.{up_to}
+use Rattle.slot_calendar.proofs.Ids.{up_to, above_back, above_low}
 use Rattle.slot_calendar.proofs.Lists.{each_weaker, each_at, each_at_front, each_take, each_drop, each_past, filter_none}
-use Rattle.slot_calendar.proofs.Orders.{in_order_at, slots_each, greatest_is_last}
+use Rattle.slot_calendar.specs.declared.slots.Slot.{Slot}
+use Rattle.slot_calendar.proofs.Orders.{in_order_at, slots_each, entries_each, greatest_is_last}
 
 -- facts by places
 module _ {X : Type 0} (P : X → Type 0) where
@@ -51,6 +52,35 @@ pub place_last : (x : Id) (entries : List Entry) (e : Entry) → IsInOrder (slot
 place_last x entries e o is low = record {
   within = omega arith;
   low = each_take (λ q. is_above q.slot.id x ≡ false) (length entries) entries (last_low x entries e o is low);
+  high = each_past (λ q. is_above q.slot.id x ≡ true) entries;
+}
+
+-- an id that is above that of the last is above all
+pub next_last : (x : Id) (entries : List Entry) (e : Entry) → IsInOrder (slots_of entries) → Some e ≡ slice_get entries (length entries - 1) → is_above x e.slot.id ≡ true
+    → Each (λ s. is_above x s.id ≡ true) (slots_of entries)
+next_last x [] e o is high = tt
+next_last x (q ∷ []) e o is high = let same : e ≡ q = cc in (subst (λ (r : Entry). is_above x r.slot.id ≡ true) same high, tt)
+next_last x (q ∷ r ∷ entries) e o is high =
+    let rest = next_last x (r ∷ entries) e o.1 (is ∙ ap (λ n. slice_get (q ∷ r ∷ entries) n) places) high in
+    (above_low x r.slot.id q.slot.id rest.0 o.0.0, rest)
+  where
+    places : suc (suc (length entries)) - 1 ≡ suc (suc (length entries) - 1)
+    places = omega arith
+
+pub last_is : (P : Slot → Type 0) (entries : List Entry) (e : Entry) → Some e ≡ slice_get entries (length entries - 1) → Each P (slots_of entries) → P e.slot
+last_is P [] e is all = absurd (cc)
+last_is P (q ∷ []) e is all = let same : e ≡ q = cc in subst (λ (r : Entry). P r.slot) (sym same) all.0
+last_is P (q ∷ r ∷ entries) e is all = last_is P (r ∷ entries) e (is ∙ ap (λ n. slice_get (q ∷ r ∷ entries) n) places) all.1
+  where
+    places : suc (suc (length entries)) - 1 ≡ suc (suc (length entries) - 1)
+    places = omega arith
+
+-- the place of an id that is above all is the end
+pub place_next : (x : Id) (entries : List Entry) → Each (λ s. is_above x s.id ≡ true) (slots_of entries) → IsPlace x (length entries) entries
+place_next x entries next = record {
+  within = omega arith;
+  low = each_take (λ q. is_above q.slot.id x ≡ false) (length entries) entries
+      (each_weaker (λ q h. above_back x q.slot.id h) entries (entries_each (λ s. is_above x s.id ≡ true) entries next));
   high = each_past (λ q. is_above q.slot.id x ≡ true) entries;
 }
 

@@ -1,10 +1,12 @@
 //! The calendar of a bus.
 ghost use Rattle.std.specs.Prelude.{◌≡◌, ◌≤◌, ◌↔◌, [], IsTrue, IfOk, OnOk, OnErr};
 ghost use Rattle.slack_base.specs.declared.bounds.TheConstants.{TOP};
+ghost use Rattle.std.specs.List.{AllByRecursion};
+ghost use Rattle.slack_base.specs.Stamps.{is_above};
 ghost use Rattle.slot_calendar.specs.Slots.{IsInOrder, last_end, clash, grant_in, placed};
 
-use crate::entries::{Entry, last_end};
-use crate::inserting::insert;
+use crate::entries::{Entry, is_next, last_end};
+use crate::inserting::{append, insert};
 use crate::openings::Opening;
 use crate::slots::Slot;
 use slack_base::{Id, OutOfMemory};
@@ -66,6 +68,9 @@ impl Calendar {
         ensures value { result ≡ clash occupancy free stamp id self.now }
         ensures in_order { IsInOrder self.now }
     {
+        if is_next(&self.entries, id) {
+            return None;
+        }
         Opening::find(&self.entries, id, stamp, free, occupancy).clash
     }
 
@@ -82,6 +87,33 @@ impl Calendar {
         requires free { free ≤ TOP }
         ensures grant { IfOk result (λ grant. grant ≡ grant_in occupancy free stamp id self.old) }
         ensures top { IfOk result (λ grant. grant ≤ TOP) }
+        ensures slots { OnOk result (self.new ≡ placed occupancy free stamp id self.old) }
+        ensures err { OnErr result (self.new ≡ self.old) }
+        ensures in_order { IsInOrder self.new }
+    {
+        if is_next(&self.entries, id) {
+            self.append(id, stamp, free, occupancy)
+        } else {
+            self.fit_in(id, stamp, free, occupancy)
+        }
+    }
+
+    /// Adds the slot of an ask whose id is above all, and gives its grant.
+    fn append(&mut self, id: Id, stamp: u64, free: u64, occupancy: u64) -> Result<u64, OutOfMemory>
+        requires { AllByRecursion (λ s. IsTrue (is_above id s.id)) self.old }
+        ensures grant { IfOk result (λ grant. grant ≡ grant_in occupancy free stamp id self.old) }
+        ensures slots { OnOk result (self.new ≡ placed occupancy free stamp id self.old) }
+        ensures err { OnErr result (self.new ≡ self.old) }
+        ensures in_order { IsInOrder self.new }
+    {
+        let grant = stamp.max(last_end(&self.entries, free, occupancy));
+        append(&mut self.entries, Slot { id, grant })?;
+        Ok(grant)
+    }
+
+    /// Adds the slot of an ask in its place among the others, and gives its grant.
+    fn fit_in(&mut self, id: Id, stamp: u64, free: u64, occupancy: u64) -> Result<u64, OutOfMemory>
+        ensures grant { IfOk result (λ grant. grant ≡ grant_in occupancy free stamp id self.old) }
         ensures slots { OnOk result (self.new ≡ placed occupancy free stamp id self.old) }
         ensures err { OnErr result (self.new ≡ self.old) }
         ensures in_order { IsInOrder self.new }

@@ -1,5 +1,5 @@
 //! The slots of a calendar, each beside the greatest grant so far and the least from there on.
-ghost use Rattle.std.specs.Prelude.{◌≡◌, ◌≤◌, take, drop, length, filter, nat_lt, ◌<◌};
+ghost use Rattle.std.specs.Prelude.{◌≡◌, ◌≤◌, ◌↔◌, IsTrue, take, drop, length, filter, nat_lt, ◌<◌};
 ghost use Rattle.std.specs.List.{AllByRecursion};
 ghost use Rattle.slack_base.specs.Stamps.{is_above};
 ghost use Rattle.slot_calendar.specs.Slots.{IsInOrder, end_of, last_end, below, greatest_id};
@@ -28,6 +28,17 @@ fn is_above(high: Id, low: Id) -> bool
     ensures { result ≡ is_above high low }
 {
     high > low
+}
+
+/// Whether an id is above those of all entries. Where there is none, it is.
+pub(crate) fn is_next(entries: &[Entry], id: Id) -> bool
+    requires { IsInOrder (slots_of entries.now) }
+    ensures { IsTrue result ↔ AllByRecursion (λ s. IsTrue (is_above id s.id)) (slots_of entries.now) }
+{
+    match entries.last() {
+        Some(last) => is_above(id, last.slot.id),
+        None => true,
+    }
 }
 
 /// The place of an id: behind all entries whose ids aren't above it. Mostly that is the end.

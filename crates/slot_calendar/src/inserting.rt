@@ -1,5 +1,5 @@
 //! A slot that is put among the entries of a calendar.
-ghost use Rattle.std.specs.Prelude.{◌≡◌, ◌≤◌, take, drop, length, insert, OnOk, OnErr};
+ghost use Rattle.std.specs.Prelude.{◌≡◌, ◌≤◌, [], ◌∷◌, ◌++◌, take, drop, length, insert, OnOk, OnErr};
 ghost use Rattle.slot_calendar.specs.Slots.{with_slot};
 ghost use Rattle.slot_calendar.specs.Entries.{slots_of, latest_of, earliest_of, AreKept, AreClimbing, IsPlace, raised_to, lowered_to, changed_between};
 
@@ -26,6 +26,37 @@ pub(crate) fn insert(entries: &mut Vec<Entry>, place: usize, slot: Slot) -> Resu
     Ok(())
 }
 
+/// Puts a slot behind all others.
+pub(crate) fn append(entries: &mut Vec<Entry>, slot: Slot) -> Result<(), OutOfMemory>
+    requires kept { AreKept entries.old.items }
+    requires place { IsPlace slot.id (length entries.old.items) entries.old.items }
+    ensures kept { AreKept entries.new.items }
+    ensures slots { OnOk result (slots_of entries.new.items ≡ with_slot slot (slots_of entries.old.items)) }
+    ensures err { OnErr result (entries.new.items ≡ entries.old.items) }
+{
+    let place = entries.len();
+    let entry = Entry {
+        slot,
+        latest: latest_of(entries).max(slot.grant),
+        earliest: slot.grant,
+    };
+    push(entries, entry)?;
+    lower(entries, place, slot.grant);
+    Ok(())
+}
+
+/// Puts an entry at the end. Mostly there is room for it.
+fn push(entries: &mut Vec<Entry>, entry: Entry) -> Result<(), OutOfMemory>
+    ensures ok { OnOk result (entries.new.items ≡ entries.old.items ++ entry ∷ []) }
+    ensures err { OnErr result (entries.new.items ≡ entries.old.items) }
+{
+    if entries.len() == entries.capacity() {
+        entries.reserve(1)?;
+    }
+    entries.push_reserved(entry);
+    Ok(())
+}
+
 /// Puts an entry at a place. Mostly that is the end.
 fn put(entries: &mut Vec<Entry>, place: usize, entry: Entry) -> Result<(), OutOfMemory>
     requires { place ≤ length entries.old.items }
@@ -33,7 +64,7 @@ fn put(entries: &mut Vec<Entry>, place: usize, entry: Entry) -> Result<(), OutOf
     ensures err { OnErr result (entries.new.items ≡ entries.old.items) }
 {
     if place == entries.len() {
-        entries.push(entry)?;
+        push(entries, entry)?;
     } else {
         entries.insert(place, entry)?;
     }

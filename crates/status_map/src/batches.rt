@@ -60,6 +60,13 @@ impl PostBatch {
         &self.posts[..self.len]
     }
 
+    /// Takes all posts out.
+    pub fn clear(&mut self)
+        ensures { self.new ≡ [] }
+    {
+        self.len = 0;
+    }
+
     /// Puts a post at the end.
     pub(crate) fn push(&mut self, post: Post)
         requires { length self.old < MOST_CORES }

@@ -47,7 +47,8 @@ fn asks_to_own(bus: &mut Bus, core: u32, out: &mut PostList) -> Result<bool, Out
         core,
         number: 0,
     };
-    bus.serve(&Ask::ReadOwn { id, line: 256 }, out)?;
+    let mut batch = PostBatch::new();
+    bus.serve(&Ask::ReadOwn { id, line: 256 }, &mut batch, out)?;
     Ok(true)
 }
 
