@@ -105,7 +105,7 @@ impl Inbox {
         ensures in_order { IsInOrder self.new }
     {
         let count = self.count.checked_add(1).ok_or(OutOfMemory)?;
-        put_post(&mut self.wheel, &mut self.off_wheel, post)?;
+        put_post(&mut self.wheel, &mut self.off_wheel, &post)?;
         self.first = self.first.min(post.due);
         self.count = count;
         Ok(())
@@ -130,18 +130,19 @@ impl Inbox {
 }
 
 /// Puts a post into the wheel: or off it, where its due isn't one of the wheel's, or stands there already.
-fn put_post(wheel: &mut Wheel, off_wheel: &mut OffWheel, post: Post) -> Result<(), OutOfMemory>
+#[inline]
+fn put_post(wheel: &mut Wheel, off_wheel: &mut OffWheel, post: &Post) -> Result<(), OutOfMemory>
     requires { IsSplit wheel.old off_wheel.old }
-    ensures ok { OnOk result (IsPut wheel.old off_wheel.old wheel.new off_wheel.new post) }
+    ensures ok { OnOk result (IsPut wheel.old off_wheel.old wheel.new off_wheel.new post.now) }
     ensures err { OnErr result (AreSame wheel.old off_wheel.old wheel.new off_wheel.new) }
 {
     if off_wheel.has(post.due) {
-        return off_wheel.put(post);
+        return off_wheel.put(*post);
     }
     if wheel.put(post)? {
         return Ok(());
     }
-    off_wheel.put(post)
+    off_wheel.put(*post)
 }
 
 /// Takes out the first post, whose due is known, of the wheel or of those off it.

@@ -70,9 +70,10 @@ impl Wheel {
     }
 
     /// Puts a post into its place, if its due is one of the wheel's: whether it is.
-    pub fn put(&mut self, post: Post) -> Result<bool, OutOfMemory>
-        ensures ok { IfOk result (λ is_put. MatchBool is_put (self.new ≡ with_post self.old post) (self.new ≡ self.old)) }
-        ensures outside { IfOk result (λ is_put. MatchBool is_put Unit (AllByRecursion (λ p. p.due ≢ post.due) self.old)) }
+    #[inline]
+    pub fn put(&mut self, post: &Post) -> Result<bool, OutOfMemory>
+        ensures ok { IfOk result (λ is_put. MatchBool is_put (self.new ≡ with_post self.old post.now) (self.new ≡ self.old)) }
+        ensures outside { IfOk result (λ is_put. MatchBool is_put Unit (AllByRecursion (λ p. p.due ≢ post.now.due) self.old)) }
         ensures err { OnErr result (self.new ≡ self.old) }
     {
         let Some(floor) = floor_for(self.floor, self.first, post.due) else {
