@@ -9,7 +9,7 @@ pub(super) struct Occupied {
 }
 
 impl Occupied {
-    ghost use Rattle.std.specs.Prelude.{◌≡◌, ◌<◌, MatchOption, IfSome, IsTrue};
+    ghost use Rattle.std.specs.Prelude.{◌≡◌, ◌<◌, MatchOption, IfSome};
     ghost use Rattle.stamp_queue.specs.Occupied.{mark_at, KeepsOthers, NoneWithin, IsNextFrom, IsNextRound};
 
     /// No slot holds a post.
@@ -37,23 +37,11 @@ impl Occupied {
         self.words[slot / 64] &= !(1 << (slot % 64));
     }
 
-    /// Whether no slot holds a post.
-    fn is_empty(&self) -> bool
-        ensures { IsTrue result → NoneWithin self.now 0 256 }
-    {
-        let words = &self.words;
-        words[0] == 0 && words[1] == 0 && words[2] == 0 && words[3] == 0
-    }
-
     /// The first slot that holds a post, from this one on round the wheel.
-    #[inline]
     pub fn next_round(&self, slot: usize) -> Option<usize>
         requires { slot < 256 }
         ensures { MatchOption result (NoneWithin self.now 0 256) (IsNextRound self.now slot) }
     {
-        if self.is_empty() {
-            return None;
-        }
         match self.next_from(slot) {
             Some(next) => Some(next),
             None => self.next_from(0),
