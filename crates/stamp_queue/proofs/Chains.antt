@@ -1,5 +1,5 @@
 -- Chains of nodes, and what a change of one node does to them.
-use Rattle.std.proofs.Common.{◌≡◌, ◌≢◌, ◌∙◌, ℕ, ◌%◌, ◌+◌, ◌<◌, ◌≤◌, zero, suc, true, false, List, [], ◌∷◌, ◌++◌, drop, take, append-nil, length, set, refl, sym, ap, subst, arith, inl, inr, None, Some, Option, IsSomeAnd, add-one, ◌-◌, ◌==◌, if◌then◌else◌}
+use Rattle.std.proofs.Common.{◌≡◌, ◌≢◌, ◌∙◌, ℕ, ◌%◌, ◌<◌, ◌≤◌, zero, suc, true, false, List, [], ◌∷◌, ◌++◌, drop, take, append-nil, length, set, refl, sym, ap, subst, arith, inl, inr, None, Some, Option, IsSomeAnd, add-one, ◌-◌, ◌==◌, if◌then◌else◌}
 use Rattle.std.specs.Option.{option_to_list, unwrap_or}
 use Rattle.std.proofs.lemmas.Bool.{cases_lt}
 use Rattle.std.proofs.lemmas.Bool.Decides.{nat_tests}
@@ -8,7 +8,7 @@ use Rattle.std.proofs.lemmas.List.{get_or-set_same, get_or-set_other, drop_all, 
 use Rattle.slack_base.specs.declared.messages.Post.{Post}
 use Rattle.slack_base.specs.Inboxes.{is_later, with_post}
 use Rattle.stamp_queue.specs.declared.inbox.nodes.Node.{Node}
-use Rattle.stamp_queue.specs.Slots.{blank, node_at, posts_from, slot_posts, HoldsPost, IsChain, IsSlot, chain_len, rest_of, KeepsSlot, StandsBefore, IsNextNoLater, IsFreeIn, KeepsAll}
+use Rattle.stamp_queue.specs.Slots.{blank, node_at, posts_from, slot_posts, HoldsPost, IsChain, IsSlot, chain_len, rest_of, KeepsSlot, StandsBefore, IsNextNoLater, KeepsAll, IsWritten, node_of}
 use Rattle.stamp_queue.proofs.Places.{with_post-pass, with_post-stop}
 
 -- the post that a place holds
@@ -198,52 +198,45 @@ settled now new k n place p m first all leads w stands =
 
 -- ---- a node is put before a chain, and the first of a chain is taken away
 
--- a free node becomes the first of a slot
-put_before : (nodes : List Node) (k place : ℕ) (slot : Option ℕ) (p : Post) (next behind : ℕ)
-    → IsFreeIn nodes place → IsSlot nodes k slot → p.due % 256 ≡ k
+-- a node that is written where there was no post keeps all others
+written_keeps : (nodes new : List Node) (place : ℕ) (node : Node) → IsWritten nodes new place node → KeepsAll nodes new
+written_keeps nodes new place node w j n x h = w.2 x (λ e. free_holds_none nodes place j n w.0 (subst (HoldsPost nodes j n) e h))
+
+-- it becomes the first of a slot
+put_before : (nodes new : List Node) (k place : ℕ) (slot : Option ℕ) (p : Post) (next behind : ℕ)
+    → IsWritten nodes new place (node_of p next behind) → IsSlot nodes k slot → p.due % 256 ≡ k
     → next ≡ unwrap_or slot 4294967295 → behind ≡ chain_len nodes slot
-    → (new : List Node) → new ≡ set nodes place (record { post = Some p; next = next; behind = behind })
     → IsSlot new k (Some place) × (slot_posts new (Some place) ≡ p ∷ slot_posts nodes slot) × KeepsAll nodes new
-put_before nodes k place None p next behind free chain is link count new is_new =
-    let node : Node = record { post = Some p; next = next; behind = behind } in
-    let here : node_at new place ≡ node = ap (λ ns. node_at ns place) is_new ∙ get_or-set_same nodes place node blank free.0 in
-    let last : (node_at new place).behind ≡ zero = ap (λ n. n.behind) here ∙ count in
-    let head : HoldsPost new k zero place = (last, subst (λ n. IsSomeAnd n.post (λ q. q.due % 256 ≡ k)) (sym here) is) in (
+put_before nodes new k place None p next behind w chain is link count =
+    let last : (node_at new place).behind ≡ zero = ap (λ n. n.behind) w.1 ∙ count in
+    let head : HoldsPost new k zero place = (last, subst (λ n. IsSomeAnd n.post (λ q. q.due % 256 ≡ k)) (sym w.1) is) in (
       subst (λ n. IsChain new k n place) (sym last) head,
-      ap (λ n. posts_from new n place) last ∙ ap (λ n. option_to_list n.post) here,
-      λ j. subst (λ ns. KeepsSlot nodes ns j) (sym is_new) (set_keeps nodes place node j (λ n. free_holds_none nodes place j n free.1)),
+      ap (λ n. posts_from new n place) last ∙ ap (λ n. option_to_list n.post) w.1,
+      written_keeps nodes new place (node_of p next behind) w,
     )
-put_before nodes k place (Some first) p next behind free chain is link count new is_new =
+put_before nodes new k place (Some first) p next behind w chain is link count =
     let c = (node_at nodes first).behind in
-    let node : Node = record { post = Some p; next = next; behind = behind } in
-    let here : node_at new place ≡ node = ap (λ ns. node_at ns place) is_new ∙ get_or-set_same nodes place node blank free.0 in
-    let keeps : KeepsAll nodes new = λ j. subst (λ ns. KeepsSlot nodes ns j) (sym is_new) (set_keeps nodes place node j (λ n. free_holds_none nodes place j n free.1)) in
+    let keeps : KeepsAll nodes new = written_keeps nodes new place (node_of p next behind) w in
     let deep = chain_same nodes new k c first chain (λ m x within. keeps k m x) in
-    let more : (node_at new place).behind ≡ suc c = ap (λ n. n.behind) here ∙ count ∙ add-one c in
-    let onward : (node_at new place).next ≡ first = ap (λ n. n.next) here ∙ link in
-    let head : HoldsPost new k (suc c) place = (more, subst (λ n. IsSomeAnd n.post (λ q. q.due % 256 ≡ k)) (sym here) is) in
+    let more : (node_at new place).behind ≡ suc c = ap (λ n. n.behind) w.1 ∙ count ∙ add-one c in
+    let onward : (node_at new place).next ≡ first = ap (λ n. n.next) w.1 ∙ link in
+    let head : HoldsPost new k (suc c) place = (more, subst (λ n. IsSomeAnd n.post (λ q. q.due % 256 ≡ k)) (sym w.1) is) in
     let whole : IsChain new k (suc c) place = (head, subst (IsChain new k c) (sym onward) deep.0) in (
       subst (λ n. IsChain new k n place) (sym more) whole,
       ap (λ n. posts_from new n place) more
-          ∙ ap (λ n. option_to_list n.post ++ posts_from new c (node_at new place).next) here
+          ∙ ap (λ n. option_to_list n.post ++ posts_from new c (node_at new place).next) w.1
           ∙ ap (λ x. p ∷ posts_from new c x) onward ∙ ap (λ posts. p ∷ posts) deep.1,
       keeps,
     )
 
-len_same : (old new : List Node) (k : ℕ) (slot : Option ℕ) → IsSlot old k slot → KeepsSlot old new k → chain_len new slot ≡ chain_len old slot
-len_same old new k None h same = refl
-len_same old new k (Some place) h same = ap (λ node. node.behind + 1) (same (node_at old place).behind place (chain_head old k (node_at old place).behind place h))
-
--- a free place is found, and becomes the first of a slot
-pub inserted : (old nodes new : List Node) (k place : ℕ) (slot : Option ℕ) (p : Post) (next behind : ℕ)
-    → KeepsAll old nodes → IsFreeIn nodes place → IsSlot old k slot → p.due % 256 ≡ k
+-- with the posts that were there behind it
+pub inserted : (old new : List Node) (k place : ℕ) (slot : Option ℕ) (p : Post) (next behind : ℕ)
+    → IsWritten old new place (node_of p next behind) → IsSlot old k slot → p.due % 256 ≡ k
     → next ≡ unwrap_or slot 4294967295 → behind ≡ chain_len old slot
-    → new ≡ set nodes place (record { post = Some p; next = next; behind = behind })
     → IsSlot new k (Some place) × (drop 1 (slot_posts new (Some place)) ≡ slot_posts old slot) × KeepsAll old new
-inserted old nodes new k place slot p next behind keeps free chain is link count is_new =
-    let same = slot_same old nodes k slot chain (keeps k) in
-    let put = put_before nodes k place slot p next behind free same.0 is link (count ∙ sym (len_same old nodes k slot chain (keeps k))) new is_new in
-    (put.0, ap (λ posts. drop 1 posts) put.1 ∙ same.1, λ j. keeps_twice old nodes new j (keeps j) (put.2 j))
+inserted old new k place slot p next behind w chain is link count =
+    let put = put_before old new k place slot p next behind w chain is link count in
+    (put.0, ap (λ posts. drop 1 posts) put.1, put.2)
 
 -- what a lent slice leaves in its list
 pub replaced_all : (old new : List Node) (n : ℕ) → n ≡ length old → length new ≡ length old → take n (new ++ drop (length new) old) ≡ new

@@ -115,6 +115,13 @@ length-with_post (q ∷ inbox) p =
       | false ↦ λ h. let deep = length-with_post inbox p in ap length (with_post-pass p q inbox h) ∙ omega (arith, deep)
     ] refl
 
+pub length-with_posts : (posts inbox : List Post) → length (with_posts inbox posts) ≡ length inbox + length posts
+length-with_posts [] inbox = omega arith
+length-with_posts (p ∷ posts) inbox =
+    let deep = length-with_posts posts (with_post inbox p) in
+    let one = length-with_post inbox p in
+    omega (arith, deep, one)
+
 -- the due of the first post
 pub next_due-with_post : (inbox : List Post) (p : Post) → p.due < 2 ^ 64 → next_due (with_post inbox p) ≡ min (next_due inbox) p.due
 next_due-with_post [] p fits = omega arith

@@ -346,3 +346,8 @@ none_taken slots occupied floor first slot w at none =
 pub none_due : (slots : List (List Post)) (occupied : Occupied) (floor first cycle : ℕ) → IsWheel slots occupied floor first → cycle < first → AllByRecursion (λ q. cycle < q.due) (wheel_posts slots)
 none_due slots occupied floor first cycle w h =
     weaker (λ q. next_due (wheel_posts slots) ≤ q.due) (λ q. cycle < q.due) (λ q from. omega (arith, from, h, w.least)) (wheel_posts slots) (all_from_first slots)
+
+-- fewer posts than one
+pub none_left : (posts : List Post) (most : ℕ) → length posts < most → most ≡ 1 → 2 ^ 64 - 1 ≡ next_due posts
+none_left [] most h one = refl
+none_left (p ∷ posts) most h one = absurd (omega (arith, h, one))

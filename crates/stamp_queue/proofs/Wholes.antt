@@ -10,7 +10,7 @@ use Rattle.stamp_queue.specs.OffWheel.{NoneHasDue}
 use Rattle.stamp_queue.specs.Whole.{IsSplit, IsWhole, IsPut, IsTaken}
 use Rattle.stamp_queue.proofs.Order.{no_later_back, due_no_later}
 use Rattle.stamp_queue.proofs.Places.{weaker, both_weaker, all_with, in_order-with_post}
-use Rattle.stamp_queue.proofs.Merged.{later_due, put_among, past_dues, stays_first, put_first, in_order-with_posts, all_with_posts, all_of_with_posts, none_sooner, next_due-with_post, next_due-with_posts, length-with_post}
+use Rattle.stamp_queue.proofs.Merged.{later_due, put_among, past_dues, stays_first, put_first, in_order-with_posts, all_with_posts, all_of_with_posts, none_sooner, next_due-with_post, next_due-with_posts, length-with_post, length-with_posts}
 
 -- the list is in order
 pub whole_order : (on off : List Post) (first count : ℕ) → IsWhole on off first count → IsInOrder (with_posts off on)
@@ -61,6 +61,10 @@ put_whole on off on_now off_now first count first_now count_now p w put fits fir
 }
 
 -- ---- the first post is taken
+
+-- there are no more posts on the wheel than in all
+pub on_within : (on off : List Post) (first count : ℕ) → IsWhole on off first count → length on ≤ count
+on_within on off first count w = let size = length-with_posts on off in omega (arith, size, w.counted)
 
 -- from the wheel
 pub take_on : (on now off : List Post) (first count : ℕ) (p : Post) → IsWhole on off first count → on ≡ p ∷ now → p.due ≤ first → IsTaken on off now off p

@@ -1,5 +1,5 @@
 -- The slots of a wheel: each is a chain of nodes.
-use Rattle.std.specs.Prelude.{◌≡◌, ℕ, ◌+◌, ◌%◌, ◌<◌, ◌==◌, zero, suc, List, [], ◌∷◌, ◌++◌, drop, false, length, slice_index_or, IfSome, IsSomeAnd, if◌then◌else◌}
+use Rattle.std.specs.Prelude.{◌≡◌, ◌≢◌, ℕ, ◌+◌, ◌%◌, ◌<◌, ◌==◌, zero, suc, List, [], ◌∷◌, ◌++◌, drop, false, length, slice_index_or, IfSome, IsSomeAnd, if◌then◌else◌}
 use Rattle.std.specs.declared.option.Option.{Option}
 use Rattle.std.specs.declared.option.Option.TheVariants.{None, Some}
 use Rattle.std.specs.Option.{option_to_list}
@@ -62,6 +62,15 @@ KeepsAll old new = (slot : ℕ) → KeepsSlot old new slot
 -- a place is one of the nodes, with no post
 abbrev pub IsFreeIn : List Node → ℕ → Type 0
 IsFreeIn nodes place = (place < length nodes) × ((node_at nodes place).post ≡ None)
+
+-- a node with a post
+abbrev pub node_of : Post → ℕ → ℕ → Node
+node_of p next behind = record { post = Some p; next = next; behind = behind }
+
+-- a node is written to a place that had no post, and all others are as they were
+abbrev pub IsWritten : List Node → List Node → ℕ → Node → Type 0
+IsWritten old new place node =
+    ((node_at old place).post ≡ None) × (node_at new place ≡ node) × ((x : ℕ) → x ≢ place → node_at new x ≡ node_at old x)
 
 -- where there is a first place, it is one of the nodes
 abbrev pub HasPlace : List Node → Option ℕ → Type 0

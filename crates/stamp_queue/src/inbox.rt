@@ -104,10 +104,12 @@ impl Inbox {
         ensures err { OnErr result (self.new ≡ self.old) }
         ensures in_order { IsInOrder self.new }
     {
-        let count = self.count.checked_add(1).ok_or(OutOfMemory)?;
-        put_post(&mut self.wheel, &mut self.off_wheel, post)?;
+        if self.count == usize::MAX {
+            return Err(OutOfMemory);
+        }
+        put_post(&mut self.wheel, &mut self.off_wheel, &post)?;
         self.first = self.first.min(post.due);
-        self.count = count;
+        self.count += 1;
         Ok(())
     }
 
@@ -122,7 +124,7 @@ impl Inbox {
         if cycle < self.first {
             return None;
         }
-        let post = take_first(&mut self.wheel, &mut self.off_wheel, self.first)?;
+        let post = take_first(&mut self.wheel, &mut self.off_wheel, self.first, self.count)?;
         self.first = self.wheel.first().min(self.off_wheel.first());
         self.count -= 1;
         Some(post)
@@ -130,26 +132,28 @@ impl Inbox {
 }
 
 /// Puts a post into the wheel: or off it, where its due isn't one of the wheel's, or stands there already.
-fn put_post(wheel: &mut Wheel, off_wheel: &mut OffWheel, post: Post) -> Result<(), OutOfMemory>
+#[inline]
+fn put_post(wheel: &mut Wheel, off_wheel: &mut OffWheel, post: &Post) -> Result<(), OutOfMemory>
     requires { IsSplit wheel.old off_wheel.old }
-    ensures ok { OnOk result (IsPut wheel.old off_wheel.old wheel.new off_wheel.new post) }
+    ensures ok { OnOk result (IsPut wheel.old off_wheel.old wheel.new off_wheel.new post.now) }
     ensures err { OnErr result (AreSame wheel.old off_wheel.old wheel.new off_wheel.new) }
 {
     if off_wheel.has(post.due) {
-        return off_wheel.put(post);
+        return off_wheel.put(*post);
     }
     if wheel.put(post)? {
         return Ok(());
     }
-    off_wheel.put(post)
+    off_wheel.put(*post)
 }
 
-/// Takes out the first post, whose due is known, of the wheel or of those off it.
-fn take_first(wheel: &mut Wheel, off_wheel: &mut OffWheel, first: u64) -> Option<Post>
-    requires { IsWhole wheel.old off_wheel.old first (length (with_posts off_wheel.old wheel.old)) }
+/// Takes out the first post, of the wheel or of those off it, where its due and the count of both are known.
+#[inline]
+fn take_first(wheel: &mut Wheel, off_wheel: &mut OffWheel, first: u64, count: usize) -> Option<Post>
+    requires { IsWhole wheel.old off_wheel.old first count }
     ensures { MatchOption result (IsNoneTaken wheel.old off_wheel.old wheel.new off_wheel.new) (IsTaken wheel.old off_wheel.old wheel.new off_wheel.new) }
 {
-    if let Some(post) = wheel.take_due(first) {
+    if let Some(post) = wheel.take_due(first, count) {
         return Some(post);
     }
     off_wheel.take_first()

@@ -2,7 +2,7 @@
 ghost use Rattle.std.specs.Prelude.{◌≡◌, ◌≢◌, ℕ, ◌%◌, drop, MatchOption, IfOk, IfSome, OnErr, IsTrue};
 ghost use Rattle.std.specs.declared.option.Option.TheVariants.{None, Some};
 ghost use Rattle.slack_base.specs.Inboxes.{with_post};
-ghost use Rattle.stamp_queue.specs.Slots.{slot_posts, chain_len, IsSlot, KeepsSlot, KeepsAll, HasPlace, IsFreeIn, StandsBefore, IsNextNoLater};
+ghost use Rattle.stamp_queue.specs.Slots.{slot_posts, chain_len, IsSlot, KeepsSlot, KeepsAll, HasPlace, IsFreeIn, IsWritten, node_of, StandsBefore, IsNextNoLater};
 
 use super::order::is_later;
 use slack_base::{OutOfMemory, Post};
@@ -24,15 +24,12 @@ impl Node {
     ghost use Rattle.std.specs.declared.option.Option.TheVariants.{None};
     ghost use Rattle.stamp_queue.specs.Slots.{rest_of};
 
-    /// A free place, with the place of the next that is free.
-    pub fn free(next: u32) -> Node
-        ensures { result.post ≡ None }
+    /// The node is free from now on, with the place of the next that is free.
+    pub fn release(&mut self, next: u32)
+        ensures { self.new.post ≡ None }
     {
-        Node {
-            post: None,
-            next,
-            behind: 0,
-        }
+        self.post = None;
+        self.next = next;
     }
 
     /// The due of the node's post: the greatest `u64` where it has none.
@@ -59,27 +56,24 @@ impl Node {
 
 /// Puts a post into a slot, behind those that are no later, by the place of its first: the place of its first from now
 /// on.
+#[inline]
 pub(super) fn insert(
     nodes: &mut Vec<Node>,
     free: &mut u32,
     first: Option<u32>,
-    post: Post,
+    post: &Post,
 ) -> Result<u32, OutOfMemory>
-    requires { IsSlot nodes.old.items (post.due % 256) first }
-    ensures slot { IfOk result (λ place. IsSlot nodes.new.items (post.due % 256) (Some place)) }
-    ensures posts { IfOk result (λ place. slot_posts nodes.new.items (Some place) ≡ with_post (slot_posts nodes.old.items first) post) }
-    ensures others { (k : ℕ) → k ≢ post.due % 256 → KeepsSlot nodes.old.items nodes.new.items k }
+    requires { IsSlot nodes.old.items (post.now.due % 256) first }
+    ensures slot { IfOk result (λ place. IsSlot nodes.new.items (post.now.due % 256) (Some place)) }
+    ensures posts { IfOk result (λ place. slot_posts nodes.new.items (Some place) ≡ with_post (slot_posts nodes.old.items first) post.now) }
+    ensures others { (k : ℕ) → k ≢ post.now.due % 256 → KeepsSlot nodes.old.items nodes.new.items k }
     ensures err { OnErr result (KeepsAll nodes.old.items nodes.new.items) }
 {
     let behind = count_from(nodes, first).ok_or(OutOfMemory)?;
-    let place = free_place(nodes, *free)?;
-    *free = nodes[place as usize].next;
-    nodes[place as usize] = Node {
-        post: Some(post),
-        next: first.unwrap_or(NOWHERE),
-        behind,
-    };
-    settle(nodes, place, post);
+    let place = put_node(nodes, free, post, first.unwrap_or(NOWHERE), behind)?;
+    if behind > 0 {
+        settle(nodes, place, *post);
+    }
     Ok(place)
 }
 
@@ -94,18 +88,46 @@ fn count_from(nodes: &[Node], first: Option<u32>) -> Option<u32>
     }
 }
 
-/// A place with no post: the one that is given, if it is free, or else a new one.
-fn free_place(nodes: &mut Vec<Node>, free: u32) -> Result<u32, OutOfMemory>
-    ensures free { IfOk result (λ place. IsFreeIn nodes.new.items place) }
-    ensures others { KeepsAll nodes.old.items nodes.new.items }
+/// Writes a node with a post to the place that is given, if it is free, or else behind all nodes: where it is written.
+#[inline]
+fn put_node(
+    nodes: &mut Vec<Node>,
+    free: &mut u32,
+    post: &Post,
+    next: u32,
+    behind: u32,
+) -> Result<u32, OutOfMemory>
+    ensures ok { IfOk result (λ place. IsWritten nodes.old.items nodes.new.items place (node_of post.now next behind)) }
+    ensures err { OnErr result (nodes.new.items ≡ nodes.old.items) }
 {
-    if is_free(nodes, free) {
-        return Ok(free);
+    let place = *free;
+    if is_free(nodes, place) {
+        *free = nodes[place as usize].next;
+        nodes[place as usize] = Node {
+            post: Some(*post),
+            next,
+            behind,
+        };
+        return Ok(place);
     }
+    push_node(nodes, post, next, behind)
+}
+
+/// Writes a node with a post behind all nodes: where it is written.
+#[cold]
+#[inline(never)]
+fn push_node(nodes: &mut Vec<Node>, post: &Post, next: u32, behind: u32) -> Result<u32, OutOfMemory>
+    ensures ok { IfOk result (λ place. IsWritten nodes.old.items nodes.new.items place (node_of post.now next behind)) }
+    ensures err { OnErr result (nodes.new.items ≡ nodes.old.items) }
+{
     let Ok(place) = u32::try_from(nodes.len()) else {
         return Err(OutOfMemory);
     };
-    nodes.push(Node::free(NOWHERE))?;
+    nodes.push(Node {
+        post: Some(*post),
+        next,
+        behind,
+    })?;
     Ok(place)
 }
 
@@ -121,6 +143,7 @@ fn is_free(nodes: &[Node], place: u32) -> bool
 
 /// Puts a post into its place among those of a slot, the first of which is at hand: those that are no later each go one
 /// node forward, and the post goes behind them.
+#[inline(never)]
 fn settle(nodes: &mut [Node], first: u32, post: Post)
     requires { IsSlot nodes.old (post.due % 256) (Some first) }
     ensures slot { IsSlot nodes.new (post.due % 256) (Some first) }

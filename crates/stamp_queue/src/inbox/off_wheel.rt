@@ -72,6 +72,8 @@ impl OffWheel {
     }
 
     /// Puts a post into its place, behind those of the same due and id that are there.
+    #[cold]
+    #[inline(never)]
     pub fn put(&mut self, post: Post) -> Result<(), OutOfMemory>
         ensures ok { OnOk result (self.new ≡ with_post self.old post) }
         ensures err { OnErr result (self.new ≡ self.old) }
@@ -86,6 +88,8 @@ impl OffWheel {
     }
 
     /// Takes out the first post. It takes no memory.
+    #[cold]
+    #[inline(never)]
     pub fn take_first(&mut self) -> Option<Post>
         ensures { MatchOption result ((self.old ≡ []) × (self.new ≡ [])) (λ p. self.old ≡ p ∷ self.new) }
     {

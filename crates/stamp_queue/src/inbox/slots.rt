@@ -59,8 +59,9 @@ impl Slots {
     }
 
     /// Puts a post into its slot, behind those that are no later.
-    pub fn put(&mut self, post: Post) -> Result<(), OutOfMemory>
-        ensures ok { OnOk result (self.new ≡ slice_set self.old (post.due % 256) (with_post (posts_in self.old (post.due % 256)) post)) }
+    #[inline]
+    pub fn put(&mut self, post: &Post) -> Result<(), OutOfMemory>
+        ensures ok { OnOk result (self.new ≡ slice_set self.old (post.now.due % 256) (with_post (posts_in self.old (post.now.due % 256)) post.now)) }
         ensures err { OnErr result (self.new ≡ self.old) }
     {
         let slot = slot_of(post.due);
@@ -75,11 +76,12 @@ impl Slots {
         ensures { MatchOption result ((posts_in self.old slot ≡ []) × (self.new ≡ self.old)) (TakesFirst self.old self.new slot) }
     {
         let place = self.firsts[slot]?;
-        let node = self.nodes[place as usize];
-        self.nodes[place as usize] = Node::free(self.free);
-        self.free = place;
+        let node = &mut self.nodes[place as usize];
+        let post = node.post;
         self.firsts[slot] = node.rest();
-        node.post
+        node.release(self.free);
+        self.free = place;
+        post
     }
 
     /// The due of the first post of a slot: the greatest `u64` where there is none.

@@ -1,5 +1,5 @@
 //! The posts of an inbox whose dues are near each other, in a wheel of slots.
-ghost use Rattle.std.specs.Prelude.{◌≡◌, ◌≢◌, ◌+◌, ◌-◌, ◌<◌, ◌≤◌, ◌⊎◌, max, [], ◌∷◌, MatchBool, MatchOption, IfOk, IfNone, IfSome, OnErr};
+ghost use Rattle.std.specs.Prelude.{◌≡◌, ◌≢◌, ◌+◌, ◌-◌, ◌<◌, ◌≤◌, ◌⊎◌, max, [], length, ◌∷◌, MatchBool, MatchOption, IfOk, IfNone, IfSome, OnErr};
 ghost use Rattle.std.specs.List.{AllByRecursion};
 ghost use Rattle.slack_base.specs.Inboxes.{with_post};
 ghost use Rattle.stamp_queue.specs.Inbox.{next_due};
@@ -70,9 +70,10 @@ impl Wheel {
     }
 
     /// Puts a post into its place, if its due is one of the wheel's: whether it is.
-    pub fn put(&mut self, post: Post) -> Result<bool, OutOfMemory>
-        ensures ok { IfOk result (λ is_put. MatchBool is_put (self.new ≡ with_post self.old post) (self.new ≡ self.old)) }
-        ensures outside { IfOk result (λ is_put. MatchBool is_put Unit (AllByRecursion (λ p. p.due ≢ post.due) self.old)) }
+    #[inline]
+    pub fn put(&mut self, post: &Post) -> Result<bool, OutOfMemory>
+        ensures ok { IfOk result (λ is_put. MatchBool is_put (self.new ≡ with_post self.old post.now) (self.new ≡ self.old)) }
+        ensures outside { IfOk result (λ is_put. MatchBool is_put Unit (AllByRecursion (λ p. p.due ≢ post.now.due) self.old)) }
         ensures err { OnErr result (self.new ≡ self.old) }
     {
         let Some(floor) = floor_for(self.floor, self.first, post.due) else {
@@ -85,8 +86,10 @@ impl Wheel {
         Ok(true)
     }
 
-    /// Takes out the first post, if it is due at the cycle. It takes no memory.
-    pub fn take_due(&mut self, cycle: u64) -> Option<Post>
+    /// Takes out the first post, if it is due at the cycle, where there are so many at most. It takes no memory.
+    #[inline]
+    pub fn take_due(&mut self, cycle: u64, most: usize) -> Option<Post>
+        requires { length self.old ≤ most }
         ensures none { IfNone result (AllByRecursion (λ p. cycle < p.due) self.old × (self.new ≡ self.old)) }
         ensures first { IfSome result (λ p. (p.due ≤ cycle) × (self.old ≡ p ∷ self.new)) }
     {
@@ -97,7 +100,7 @@ impl Wheel {
         let post = self.slots.take(slot)?;
         if self.slots.is_empty(slot) {
             self.occupied.remove(slot);
-            self.first = first_from(&self.slots, &self.occupied, self.first);
+            self.first = first_from(&self.slots, &self.occupied, self.first, most);
         }
         Some(post)
     }
@@ -121,11 +124,16 @@ fn floor_for(floor: u64, first: u64, due: u64) -> Option<u64>
     if raised <= first { Some(raised) } else { None }
 }
 
-/// The due of the first post of slots with no post before a due: the greatest `u64` where there is none.
-fn first_from(slots: &Slots, occupied: &Occupied, due: u64) -> u64
-    requires { AreHeld slots.now due × AreMarked occupied.now slots.now }
+/// The due of the first post of slots with no post before a due, and fewer than so many: the greatest `u64` where there
+/// is none.
+#[inline]
+fn first_from(slots: &Slots, occupied: &Occupied, due: u64, most: usize) -> u64
+    requires { AreHeld slots.now due × AreMarked occupied.now slots.now × (length (wheel_posts slots.now) < most) }
     ensures { result ≡ next_due (wheel_posts slots.now) }
 {
+    if most == 1 {
+        return u64::MAX;
+    }
     match occupied.next_round(slot_of(due)) {
         Some(slot) => slots.due_of(slot),
         None => u64::MAX,

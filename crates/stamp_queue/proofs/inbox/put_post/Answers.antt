@@ -15,17 +15,17 @@ pub returns-then-has-clause-ok : goal.returns-then-has-clause-ok
 returns-then-has-clause-ok c =
     let on = c.args.wheel.now in
     let off = c.args.off_wheel.now in
-    let has : NoneHasDue off c.args.post.due → ⊥ = rw c.if-has.true at c.has.ensures in
-    weaker_ok c.put.result (c.put.new.self ≡ with_post off c.args.post) (IsPut on off on c.put.new.self c.args.post)
-    (λ is. put_off on off c.put.new.self c.args.post c.requires (off_not_on on off c.args.post.due c.requires has) is) c.put.ensures.ok
+    let has : NoneHasDue off c.args.post.now.due → ⊥ = rw c.if-has.true at c.has.ensures in
+    weaker_ok c.put.result (c.put.new.self ≡ with_post off c.args.post.now) (IsPut on off on c.put.new.self c.args.post.now)
+    (λ is. put_off on off c.put.new.self c.args.post.now c.requires (off_not_on on off c.args.post.now.due c.requires has) is) c.put.ensures.ok
 
 -- the wheel has taken it
 pub returns-then-branch-clause-ok : goal.returns-then-branch-clause-ok
 returns-then-branch-clause-ok c =
     let on = c.args.wheel.now in
     let off = c.args.off_wheel.now in
-    let none : NoneHasDue off c.args.post.due = rw c.if-has.false at c.has.ensures in
-    put_on on off c.put-2.new.self c.args.post c.requires none (rw c.if-branch.true at c.in_ok-put.ensures.ok)
+    let none : NoneHasDue off c.args.post.now.due = rw c.if-has.false at c.has.ensures in
+    put_on on off c.put-2.new.self c.args.post.now c.requires none (rw c.if-branch.true at c.in_ok-put.ensures.ok)
 
 -- its due is none of the wheel's
 pub returns-clause-ok : goal.returns-clause-ok
@@ -33,6 +33,6 @@ returns-clause-ok c =
     let on = c.args.wheel.now in
     let off = c.args.off_wheel.now in
     let same : c.put-2.new.self ≡ on = rw c.if-branch.false at c.in_ok-put.ensures.ok in
-    let none : AllByRecursion (λ p. p.due ≢ c.args.post.due) on = rw c.if-branch.false at c.in_ok-put.ensures.outside in
-    weaker_ok c.put-3.result (c.put-3.new.self ≡ with_post off c.args.post) (IsPut on off c.put-2.new.self c.put-3.new.self c.args.post)
-    (λ is. subst (λ now. IsPut on off now c.put-3.new.self c.args.post) (sym same) (put_off on off c.put-3.new.self c.args.post c.requires none is)) c.put-3.ensures.ok
+    let none : AllByRecursion (λ p. p.due ≢ c.args.post.now.due) on = rw c.if-branch.false at c.in_ok-put.ensures.outside in
+    weaker_ok c.put-3.result (c.put-3.new.self ≡ with_post off c.args.post.now) (IsPut on off c.put-2.new.self c.put-3.new.self c.args.post.now)
+    (λ is. subst (λ now. IsPut on off now c.put-3.new.self c.args.post.now) (sym same) (put_off on off c.put-3.new.self c.args.post.now c.requires none is)) c.put-3.ensures.ok

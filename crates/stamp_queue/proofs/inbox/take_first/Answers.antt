@@ -1,12 +1,15 @@
 use Rattle.std.proofs.Common.{◌≡◌, ◌∙◌, [], ◌∷◌, MatchOption, None, Option, Some, subst, sym}
 use Rattle.slack_base.specs.declared.messages.Post.{Post}
 use Rattle.stamp_queue.specs.Whole.{IsTaken, IsNoneTaken}
-use Rattle.stamp_queue.proofs.Wholes.{take_on, take_off, take_none}
+use Rattle.stamp_queue.proofs.Wholes.{on_within, take_on, take_off, take_none}
 use Rattle.stamp_queue.proofs.inbox.take_first.Goals as goal
 
 either : (o : Option Post) (P R : Type 0) (Q S : Post → Type 0) → (P → R) → ((p : Post) → Q p → S p) → MatchOption o P Q → MatchOption o R S
 either None P R Q S f g h = f h
 either (Some p) P R Q S f g h = g p h
+
+pub take_due-requires : goal.take_due-requires
+take_due-requires c = on_within _ _ _ _ c.requires
 
 pub returns-in-Some : goal.returns-in-Some
 returns-in-Some c = take_on _ _ _ _ _ c.in-Some.post c.requires c.in-Some.ensures.first.1 c.in-Some.ensures.first.0

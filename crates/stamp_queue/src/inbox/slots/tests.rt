@@ -22,7 +22,7 @@ fn nodes_are_used_again(rt: HostRuntime) -> Result<(), Fail> {
     let mut slots = Slots::new(rt.alloc());
     for round in 0..300u64 {
         for due in [round, round, round + 7] {
-            slots.put(retry(due))?;
+            slots.put(&retry(due))?;
         }
         for due in [round + 7, round, round] {
             assert_eq!(rt; slots.take(slot_of(due)), Some(retry(due)));

@@ -1,4 +1,4 @@
-use Rattle.std.proofs.Common.{◌≡◌, ◌∙◌, ◌+◌, ◌<◌, ◌^◌, ap, rules, subst, sym}
+use Rattle.std.proofs.Common.{◌∙◌, ◌<◌, ◌^◌, ap, refl, rules, subst, sym}
 use Rattle.slack_base.specs.Inboxes.{with_post}
 use Rattle.stamp_queue.specs.Inbox.{IsInOrder, IsPutBetween}
 use Rattle.stamp_queue.specs.Merged.{with_posts}
@@ -7,8 +7,8 @@ use Rattle.stamp_queue.proofs.Wholes.{put_whole, whole_order}
 use Rattle.stamp_queue.proofs.inbox.Inbox.put.Goals as goal
 
 -- there was no room for one more
-pub returns-in_err-count-clause-in_order : goal.returns-in_err-count-clause-in_order
-returns-in_err-count-clause-in_order c = subst IsInOrder c.self.view_is (whole_order _ _ _ _ c.self.invariant)
+pub returns-then-self-clause-in_order : goal.returns-then-self-clause-in_order
+returns-then-self-clause-in_order c = subst IsInOrder c.self.view_is (whole_order _ _ _ _ c.self.invariant)
 
 pub returns-in_err-put_post-clause-in_order : goal.returns-in_err-put_post-clause-in_order
 returns-in_err-put_post-clause-in_order c =
@@ -18,8 +18,7 @@ returns-in_err-put_post-clause-in_order c =
 pub invariant_of-self-2 : goal.invariant_of-self-2
 invariant_of-self-2 c =
     let fits : c.args.post.due < 2 ^ 64 = search rules in
-    let counted : c.in_ok-count.count ≡ c.self.inside.count + 1 = (rw c.in_ok-count.ensures.ok_part at c.checked_add.ensures).1 in
-    put_whole _ _ _ _ _ _ _ _ c.args.post c.self.invariant c.in_ok-put_post.ensures.ok fits c.min-self-inside.ensures counted
+    put_whole _ _ _ _ _ _ _ _ c.args.post c.self.invariant c.in_ok-put_post.ensures.ok fits c.min-self-inside.ensures refl
 
 pub returns-clause-ok : goal.returns-clause-ok
 returns-clause-ok c = c.in_ok-put_post.ensures.ok.list ∙ ap (λ posts. with_post posts c.args.post) c.self.view_is

@@ -12,9 +12,9 @@ invariant_of-self c =
     let all : length c.self.inside.firsts ≡ 256 = search rules in
     let chain : IsSlot nodes c.args.slot (Some place) = subst (IsSlot nodes c.args.slot) c.in_ok-place.was (c.self.invariant c.args.slot c.requires) in
     let within = held_within nodes c.args.slot _ place (chain_head nodes c.args.slot _ place chain) in
-    let node_is : c.index.result.now ≡ node_at nodes place = c.index.ensures ∙ get_or_default nodes place c.index.result.now blank within in
-    let shows = take_shows nodes c.self.inside.firsts c.args.slot place c.free.result c.rest.result c.args.self.now all c.requires c.in_ok-place.was
-    c.self.invariant c.self.view_is c.free.ensures (c.rest.ensures ∙ ap rest_of node_is) in
+    let node_is : c.index_mut-node.result.now ≡ node_at nodes place = c.index_mut-node.ensures.value ∙ get_or_default nodes place c.index_mut-node.result.now blank within in
+    let shows = take_shows nodes c.self.inside.firsts c.args.slot place c.release.new.self c.rest.result c.args.self.now all c.requires c.in_ok-place.was
+    c.self.invariant c.self.view_is c.release.ensures (c.rest.ensures ∙ ap rest_of node_is) in
     shows.0
 
 pub returns : goal.returns
@@ -24,7 +24,7 @@ returns c =
     let all : length c.self.inside.firsts ≡ 256 = search rules in
     let chain : IsSlot nodes c.args.slot (Some place) = subst (IsSlot nodes c.args.slot) c.in_ok-place.was (c.self.invariant c.args.slot c.requires) in
     let within = held_within nodes c.args.slot _ place (chain_head nodes c.args.slot _ place chain) in
-    let node_is : c.index.result.now ≡ node_at nodes place = c.index.ensures ∙ get_or_default nodes place c.index.result.now blank within in
-    let shows = take_shows nodes c.self.inside.firsts c.args.slot place c.free.result c.rest.result c.args.self.now all c.requires c.in_ok-place.was
-    c.self.invariant c.self.view_is c.free.ensures (c.rest.ensures ∙ ap rest_of node_is) in
+    let node_is : c.index_mut-node.result.now ≡ node_at nodes place = c.index_mut-node.ensures.value ∙ get_or_default nodes place c.index_mut-node.result.now blank within in
+    let shows = take_shows nodes c.self.inside.firsts c.args.slot place c.release.new.self c.rest.result c.args.self.now all c.requires c.in_ok-place.was
+    c.self.invariant c.self.view_is c.release.ensures (c.rest.ensures ∙ ap rest_of node_is) in
     rw (ap (λ node. node.post) node_is ∙ shows.2) shows.3

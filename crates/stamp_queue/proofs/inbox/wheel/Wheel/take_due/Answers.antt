@@ -1,4 +1,4 @@
-use Rattle.std.proofs.Common.{◌<◌, ◌∙◌, ap, arith, sym, subst, refl}
+use Rattle.std.proofs.Common.{◌<◌, ◌∙◌, ap, arith, length, sym, subst, refl}
 use Rattle.std.specs.List.{AllByRecursion}
 use Rattle.std.proofs.lemmas.Bool.{false≢true}
 use Rattle.stamp_queue.specs.Wheel.{wheel_posts}
@@ -18,7 +18,8 @@ returns-in_err-post-clause-none c =
 pub first_from-self-inside-requires : goal.first_from-self-inside-requires
 first_from-self-inside-requires c =
     let taken = take_wheel _ _ _ _ _ _ _ c.self.invariant c.slot_of-slot.ensures c.in_ok-post.ensures in
-    (taken.held _ taken.above (omega arith), taken.emptied _ (c.is_empty.ensures.0 c.if-is_empty.true) c.remove.ensures.here c.remove.ensures.others)
+    let size = ap length (sym c.self.view_is ∙ taken.posts) in
+    (taken.held _ taken.above (omega arith), taken.emptied _ (c.is_empty.ensures.0 c.if-is_empty.true) c.remove.ensures.here c.remove.ensures.others, omega (arith, size, c.requires))
 
 pub invariant_of-self-then-is_empty : goal.invariant_of-self-then-is_empty
 invariant_of-self-then-is_empty c =
