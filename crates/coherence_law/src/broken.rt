@@ -3,7 +3,7 @@ ghost use Rattle.std.specs.Prelude.{◌≡◌, ◌<◌, ◌^◌, IfOk, count_by}
 ghost use Rattle.std.specs.List.{list_any, list_all};
 ghost use Rattle.bus_model.specs.Channels.{count_of};
 ghost use Rattle.timed_core.specs.Accesses.{held_in};
-ghost use Rattle.lockstep_model.specs.Views.{machine_of, values_of};
+ghost use Rattle.lockstep_model.specs.Views.{cores_of, machine_of, values_of};
 ghost use Rattle.coherence_law.specs.Breaks.{are_same, are_these, breaks_of, is_alone, is_coherent, is_held, is_in_memory, is_true_to, is_writable, lines_in};
 ghost use Rattle.coherence_law.specs.Coherent.{words_on};
 
@@ -51,28 +51,28 @@ fn is_coherent(machine: &Machine, line: u32) -> bool
 
 /// Whether at most one core holds the line, or none may write it.
 fn is_alone(cores: &[TimedCore], line: u32) -> bool
-    ensures { result ≡ is_alone (values_of cores.now) line }
+    ensures { result ≡ is_alone (cores_of cores.now) line }
 {
     holders(cores, line) <= 1 || !is_writable_in_some(cores, line)
 }
 
 /// How many cores hold the line.
 fn holders(cores: &[TimedCore], line: u32) -> usize
-    ensures { result ≡ count_by (λ core. is_held (held_in core.inner.cache line)) (values_of cores.now) }
+    ensures { result ≡ count_by (λ core. is_held (held_in core.inner.cache line)) (cores_of cores.now) }
 {
     cores.iter().filter(|core| is_held(core.held(line))).count()
 }
 
 /// Whether a core holds the line that may write it.
 fn is_writable_in_some(cores: &[TimedCore], line: u32) -> bool
-    ensures { result ≡ list_any (λ core. is_writable (held_in core.inner.cache line)) (values_of cores.now) }
+    ensures { result ≡ list_any (λ core. is_writable (held_in core.inner.cache line)) (cores_of cores.now) }
 {
     cores.iter().any(|core| is_writable(core.held(line)))
 }
 
 /// Whether each core that holds the line has written it or has memory's words.
 fn are_true(cores: &[TimedCore], chans: &[Channel], line: u32) -> bool
-    ensures { result ≡ list_all (λ core. is_true_to (values_of chans.now) line (held_in core.inner.cache line)) (values_of cores.now) }
+    ensures { result ≡ list_all (λ core. is_true_to (values_of chans.now) line (held_in core.inner.cache line)) (cores_of cores.now) }
 {
     cores
         .iter()

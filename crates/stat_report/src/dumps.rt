@@ -1,7 +1,7 @@
 //! Dumps of memory.
 ghost use Rattle.std.specs.Prelude.{◌≡◌, ◌++◌, ◌+◌, ◌*◌, ◌^◌, ◌<◌, ◌≤◌, IfOk, OnOk};
 ghost use Rattle.bus_model.specs.Channels.{count_of};
-ghost use Rattle.lockstep_model.specs.Views.{machine_of, values_of};
+ghost use Rattle.lockstep_model.specs.Views.{cores_of, machine_of, values_of};
 ghost use Rattle.stat_report.specs.Dump.{dump_line, dump_of, dumped, is_zero, lines_in, memory_words, modified_words, words_at, words_of_chan, written_words};
 
 use bus_model::Channel;
@@ -65,7 +65,7 @@ fn words_of_chan(chan: &Channel, line: u32) -> Option<Words>
 
 /// The words of a line in the cache of the first core that holds it Modified.
 fn written_words(cores: &[TimedCore], line: u32) -> Option<Words>
-    ensures { result ≡ written_words line (values_of cores.now) }
+    ensures { result ≡ written_words line (cores_of cores.now) }
 {
     for core in cores {
         if let Some(words) = modified_words(core.held(line)) {

@@ -4,7 +4,7 @@ ghost use Rattle.serde_json.specs.Data.{put as with_member};
 ghost use Rattle.serde_json.specs.View.{members_view, view};
 ghost use Rattle.plain_text.specs.Pieces.{hex_digit};
 ghost use Rattle.stat_report.specs.Json.{bus_data, buses_data, core_object, count, cores_data, end_name, end_value, hex_byte, hex_bytes, json_of, json_text};
-ghost use Rattle.lockstep_model.specs.Views.{machine_of, values_of};
+ghost use Rattle.lockstep_model.specs.Views.{cores_of, machine_of, values_of};
 ghost use Rattle.stat_report.specs.Report.{console_of};
 
 use crate::lines::{end_cycle, trap_name, trap_value};
@@ -50,7 +50,7 @@ fn machine_value(alloc: Global, machine: &Machine) -> Result<Value, OutOfMemory>
 
 #[tactic(auto, unfolding(crate::specs::Json::cores_data))]
 fn core_values(alloc: Global, clock: u64, cores: &[TimedCore]) -> Result<Vec<Value>, OutOfMemory>
-    ensures { IfOk result (λ values. map view values.items ≡ cores_data clock (values_of cores.now)) }
+    ensures { IfOk result (λ values. map view values.items ≡ cores_data clock (cores_of cores.now)) }
 {
     let mut values = Vec::new(alloc);
     for core in cores {

@@ -1,7 +1,7 @@
 //! The report of a run.
 ghost use Rattle.std.specs.Prelude.{◌≡◌, ◌≤◌, ◌++◌, OnOk, IfOk};
 ghost use Rattle.slack_base.specs.declared.bounds.TheConstants.{TOP};
-ghost use Rattle.lockstep_model.specs.Views.{machine_of, values_of};
+ghost use Rattle.lockstep_model.specs.Views.{cores_of, machine_of, values_of};
 ghost use Rattle.stat_report.specs.Report.{all_cores_ended, end_of, last_end, cycles_of, cores_text, bus_line, buses_text, console_of, console_text, report_of};
 
 use crate::lines::push_core;
@@ -46,7 +46,7 @@ pub(crate) fn console_bytes(alloc: Global, chans: &[Channel]) -> Result<ByteList
 /// The cycles that a run took.
 #[tactic(auto, unfolding(crate::specs::Report::cycles_of))]
 pub(crate) fn cycles(clock: u64, cores: &[TimedCore]) -> u64
-    ensures { result ≡ cycles_of clock (values_of cores.now) }
+    ensures { result ≡ cycles_of clock (cores_of cores.now) }
 {
     if all_cores_ended(cores) {
         last_end(cores) + 1
@@ -57,13 +57,13 @@ pub(crate) fn cycles(clock: u64, cores: &[TimedCore]) -> u64
 
 /// Whether all cores have ended.
 fn all_cores_ended(cores: &[TimedCore]) -> bool
-    ensures { result ≡ all_cores_ended (values_of cores.now) }
+    ensures { result ≡ all_cores_ended (cores_of cores.now) }
 {
     cores.iter().all(|core| core.has_ended())
 }
 
 fn last_end(cores: &[TimedCore]) -> u64
-    ensures value { result ≡ last_end (values_of cores.now) }
+    ensures value { result ≡ last_end (cores_of cores.now) }
     ensures bound { result ≤ TOP }
 {
     let mut last = 0;
@@ -85,7 +85,7 @@ fn end_of(ended: CoreEnd) -> u64
 
 #[tactic(auto, unfolding(crate::specs::Report::cores_text))]
 fn push_cores(text: &mut Text, clock: u64, cores: &[TimedCore]) -> Result<(), OutOfMemory>
-    ensures { OnOk result (text.new ≡ text.old ++ cores_text clock (values_of cores.now)) }
+    ensures { OnOk result (text.new ≡ text.old ++ cores_text clock (cores_of cores.now)) }
 {
     for core in cores {
         push_core(text, clock, core.number(), core.end(), &core.counts())?;
