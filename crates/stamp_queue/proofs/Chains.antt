@@ -1,5 +1,5 @@
 -- Chains of nodes, and what a change of one node does to them.
-use Rattle.std.proofs.Common.{◌≡◌, ◌≢◌, ◌∙◌, ℕ, ◌%◌, ◌<◌, ◌≤◌, zero, suc, true, false, List, [], ◌∷◌, ◌++◌, drop, take, append-nil, length, set, refl, sym, ap, subst, arith, inl, inr, None, Some, Option, IsSomeAnd, add-one, ◌-◌, ◌==◌, if◌then◌else◌}
+use Rattle.std.proofs.Common.{◌≡◌, ◌≢◌, ◌∙◌, ℕ, ◌%◌, ◌<◌, ◌≤◌, zero, suc, true, false, List, [], ◌∷◌, ◌++◌, drop, take, append-nil, length, set, refl, sym, ap, subst, arith, inl, inr, None, Some, Option, IsSomeAnd, add-one, ◌-◌, ◌==◌, if◌then◌else◌, Bool}
 use Rattle.std.specs.Option.{option_to_list, unwrap_or}
 use Rattle.std.proofs.lemmas.Bool.{cases_lt}
 use Rattle.std.proofs.lemmas.Bool.Decides.{nat_tests}
@@ -8,7 +8,7 @@ use Rattle.std.proofs.lemmas.List.{get_or-set_same, get_or-set_other, drop_all, 
 use Rattle.slack_base.specs.declared.messages.Post.{Post}
 use Rattle.slack_base.specs.Inboxes.{is_later, with_post}
 use Rattle.stamp_queue.specs.declared.inbox.nodes.Node.{Node}
-use Rattle.stamp_queue.specs.Slots.{blank, node_at, posts_from, slot_posts, HoldsPost, IsChain, IsSlot, chain_len, rest_of, KeepsSlot, StandsBefore, IsNextNoLater, KeepsAll, IsWritten, node_of}
+use Rattle.stamp_queue.specs.Slots.{blank, node_at, posts_from, slot_posts, HoldsPost, IsChain, IsSlot, chain_len, rest_of, KeepsSlot, StandsBefore, IsNextNoLater, KeepsAll, IsWritten, kept_post, node_of}
 use Rattle.stamp_queue.proofs.Places.{with_post-pass, with_post-stop}
 
 -- the post that a place holds
@@ -16,22 +16,33 @@ post_of : (o : Option Post) (k : ℕ) → IsSomeAnd o (λ p. p.due % 256 ≡ k) 
 post_of None k h = absurd h
 post_of (Some p) k h = (p, refl, h)
 
-pub held_post : (nodes : List Node) (k n place : ℕ) → HoldsPost nodes k n place → (p : Post) × ((node_at nodes place).post ≡ Some p) × (p.due % 256 ≡ k)
-held_post nodes k n place h = post_of (node_at nodes place).post k h.1
+pub held_post : (nodes : List Node) (k n place : ℕ) → HoldsPost nodes k n place → (p : Post) × (kept_post (node_at nodes place) ≡ Some p) × (p.due % 256 ≡ k)
+held_post nodes k n place h = post_of (kept_post (node_at nodes place)) k h.1
 
 slot_of_post : (o : Option Post) (k j : ℕ) → IsSomeAnd o (λ p. p.due % 256 ≡ k) → IsSomeAnd o (λ p. p.due % 256 ≡ j) → k ≡ j
 slot_of_post None k j h g = absurd h
 slot_of_post (Some p) k j h g = sym h ∙ g
 
+-- the post of a node that isn't free
+kept_as : (b : Bool) (p q : Post) → (if b then Some p else None) ≡ Some q → (p ≡ q) × (b ≡ true)
+kept_as false p q h = absurd (let no : None ≡ Some q = h in cc)
+kept_as true p q h = let both : Some p ≡ Some q = h in let same : p ≡ q = cc in (same, refl)
+
+pub kept_is : (node : Node) (q : Post) → kept_post node ≡ Some q → node.post ≡ q
+kept_is node q h = (kept_as node.is_used node.post q h).0
+
+kept_with : (node : Node) (p q : Post) → kept_post node ≡ Some q → kept_post (record node { post = p }) ≡ Some p
+kept_with node p q h = ap (λ b. if b then Some p else None) (kept_as node.is_used node.post q h).1
+
 -- a place stands in one slot alone, and at one distance from its end
 pub same_node : (nodes : List Node) (k j n m place : ℕ) → HoldsPost nodes k n place → HoldsPost nodes j m place → (k ≡ j) × (n ≡ m)
-same_node nodes k j n m place h g = (slot_of_post (node_at nodes place).post k j h.1 g.1, sym h.0 ∙ g.0)
+same_node nodes k j n m place h g = (slot_of_post (kept_post (node_at nodes place)) k j h.1 g.1, sym h.0 ∙ g.0)
 
 -- a place that holds a post is one of the nodes
 pub held_within : (nodes : List Node) (k n place : ℕ) → HoldsPost nodes k n place → place < length nodes
 held_within nodes k n place h = elim (cases_lt place (length nodes)) [
   | inl within ↦ within
-  | inr beyond ↦ absurd (subst (λ node. IsSomeAnd node.post (λ p. p.due % 256 ≡ k)) (get_or-eq_default nodes blank beyond) h.1)
+  | inr beyond ↦ absurd (subst (λ node. IsSomeAnd (kept_post node) (λ p. p.due % 256 ≡ k)) (get_or-eq_default nodes blank beyond) h.1)
 ]
 
 pub chain_head : (nodes : List Node) (k n place : ℕ) → IsChain nodes k n place → HoldsPost nodes k n place
@@ -44,13 +55,13 @@ pub chain_same : (old new : List Node) (k n place : ℕ) → IsChain old k n pla
     → IsChain new k n place × (posts_from new n place ≡ posts_from old n place)
 chain_same old new k zero place h same =
     let e = same zero place (omega arith) h in
-    (subst (λ node. (node.behind ≡ zero) × IsSomeAnd node.post (λ p. p.due % 256 ≡ k)) (sym e) h, ap (λ node. option_to_list node.post) e)
+    (subst (λ node. (node.behind ≡ zero) × IsSomeAnd (kept_post node) (λ p. p.due % 256 ≡ k)) (sym e) h, ap (λ node. option_to_list (kept_post node)) e)
 chain_same old new k (suc n) place h same =
     let e = same (suc n) place (omega arith) h.0 in
     let deep = chain_same old new k n (node_at old place).next h.1 (λ m x within. same m x (omega arith)) in
-    let head = subst (λ node. (node.behind ≡ suc n) × IsSomeAnd node.post (λ p. p.due % 256 ≡ k)) (sym e) h.0 in (
+    let head = subst (λ node. (node.behind ≡ suc n) × IsSomeAnd (kept_post node) (λ p. p.due % 256 ≡ k)) (sym e) h.0 in (
       (head, subst (λ node. IsChain new k n node.next) (sym e) deep.0),
-      ap (λ node. option_to_list node.post ++ posts_from new n node.next) e ∙ ap (λ posts. option_to_list (node_at old place).post ++ posts) deep.1,
+      ap (λ node. option_to_list (kept_post node) ++ posts_from new n node.next) e ∙ ap (λ posts. option_to_list (kept_post (node_at old place)) ++ posts) deep.1,
     )
 
 -- a slot is as it was where its nodes are
@@ -66,14 +77,14 @@ slot_same old new k (Some place) h same =
 pub keeps_twice : (a b c : List Node) (k : ℕ) → KeepsSlot a b k → KeepsSlot b c k → KeepsSlot a c k
 keeps_twice a b c k one two n place h =
     let e = one n place h in
-    two n place (subst (λ node. (node.behind ≡ n) × IsSomeAnd node.post (λ p. p.due % 256 ≡ k)) (sym e) h) ∙ e
+    two n place (subst (λ node. (node.behind ≡ n) × IsSomeAnd (kept_post node) (λ p. p.due % 256 ≡ k)) (sym e) h) ∙ e
 
 -- a change of a node that holds no post of the slot
 pub set_keeps : (nodes : List Node) (place : ℕ) (node : Node) (k : ℕ) → ((n : ℕ) → HoldsPost nodes k n place → ⊥) → KeepsSlot nodes (set nodes place node) k
 set_keeps nodes place node k none n x h = get_or-set_other nodes place x node blank (λ e. none n (subst (HoldsPost nodes k n) e h))
 
 -- a place with no post stands in no slot
-pub free_holds_none : (nodes : List Node) (place k n : ℕ) → (node_at nodes place).post ≡ None → HoldsPost nodes k n place → ⊥
+pub free_holds_none : (nodes : List Node) (place k n : ℕ) → kept_post (node_at nodes place) ≡ None → HoldsPost nodes k n place → ⊥
 free_holds_none nodes place k n free h = subst (λ o. IsSomeAnd o (λ p. p.due % 256 ≡ k)) free h.1
 
 -- a place of one slot stands in no other
@@ -81,7 +92,7 @@ pub other_holds_none : (nodes : List Node) (place k j n : ℕ) → HoldsPost nod
 other_holds_none nodes place k j n h apart m g = apart (same_node nodes j k m n place g h).0
 
 -- the first post of a chain, and those behind it
-pub chain_posts : (nodes : List Node) (k n place : ℕ) → IsChain nodes k n place → (p : Post) × ((node_at nodes place).post ≡ Some p) × (posts_from nodes n place ≡ p ∷ drop 1 (posts_from nodes n place))
+pub chain_posts : (nodes : List Node) (k n place : ℕ) → IsChain nodes k n place → (p : Post) × (kept_post (node_at nodes place) ≡ Some p) × (posts_from nodes n place ≡ p ∷ drop 1 (posts_from nodes n place))
 chain_posts nodes k zero place h =
     let held = held_post nodes k zero place h in
     (held.0, held.1, ap option_to_list held.1 ∙ ap (λ o. held.0 ∷ drop 1 (option_to_list o)) (sym held.1))
@@ -105,44 +116,48 @@ behind_last nodes k place h = let held = held_post nodes k zero place h in ap (�
 pub record Written (old new : List Node) (k n place : ℕ) (p : Post) : Type 0 where
   pub chain : IsChain new k n place
   pub posts : posts_from new n place ≡ p ∷ drop 1 (posts_from old n place)
-  pub here : (node_at new place).post ≡ Some p
+  pub here : kept_post (node_at new place) ≡ Some p
   pub next : (node_at new place).next ≡ (node_at old place).next
   pub slot : (m x : ℕ) → m ≢ n → HoldsPost old k m x → node_at new x ≡ node_at old x
   pub others : (j : ℕ) → j ≢ k → KeepsSlot old new j
 
 written-node : (old : List Node) (k n place : ℕ) (p : Post) → IsChain old k n place → p.due % 256 ≡ k
-    → (new : List Node) → node_at new place ≡ record (node_at old place) { post = Some p }
+    → (new : List Node) → node_at new place ≡ record (node_at old place) { post = p }
     → ((x : ℕ) → x ≢ place → node_at new x ≡ node_at old x) → Written old new k n place p
 written-node old k zero place p chain is new here others =
-    let head : HoldsPost new k zero place = subst (λ node. (node.behind ≡ zero) × IsSomeAnd node.post (λ q. q.due % 256 ≡ k)) (sym here) (chain.0, is) in
+    let had = held_post old k zero place chain in
+    let now : kept_post (node_at new place) ≡ Some p = ap kept_post here ∙ kept_with (node_at old place) p had.0 had.1 in
+    let head : HoldsPost new k zero place = (ap (λ node. node.behind) here ∙ chain.0, subst (λ o. IsSomeAnd o (λ q. q.due % 256 ≡ k)) (sym now) is) in
     record {
       chain = head;
-      posts = ap (λ node. option_to_list node.post) here ∙ ap (λ posts. p ∷ posts) (sym (behind_last old k place chain));
-      here = ap (λ node. node.post) here;
+      posts = ap option_to_list now ∙ ap (λ posts. p ∷ posts) (sym (behind_last old k place chain));
+      here = now;
       next = ap (λ node. node.next) here;
       slot = λ m x apart h. others x (λ e. apart (same_node old k k m zero place (subst (HoldsPost old k m) e h) chain).1);
       others = λ j apart m x h. others x (λ e. other_holds_none old place k j zero chain apart m (subst (HoldsPost old j m) e h));
     }
 written-node old k (suc n) place p chain is new here others =
-    let head : HoldsPost new k (suc n) place = subst (λ node. (node.behind ≡ suc n) × IsSomeAnd node.post (λ q. q.due % 256 ≡ k)) (sym here) (chain.0.0, is) in
+    let had = held_post old k (suc n) place chain.0 in
+    let now : kept_post (node_at new place) ≡ Some p = ap kept_post here ∙ kept_with (node_at old place) p had.0 had.1 in
+    let head : HoldsPost new k (suc n) place = (ap (λ node. node.behind) here ∙ chain.0.0, subst (λ o. IsSomeAnd o (λ q. q.due % 256 ≡ k)) (sym now) is) in
     let next : (node_at new place).next ≡ (node_at old place).next = ap (λ node. node.next) here in
     let slot : (m x : ℕ) → m ≢ suc n → HoldsPost old k m x → node_at new x ≡ node_at old x =
     λ m x apart h. others x (λ e. apart (same_node old k k m (suc n) place (subst (HoldsPost old k m) e h) chain.0).1) in
     let deep = chain_same old new k n (node_at old place).next chain.1 (λ m x within h. slot m x (λ e. absurd (omega arith)) h) in
     record {
       chain = (head, subst (IsChain new k n) (sym next) deep.0);
-      posts = ap (λ node. option_to_list node.post ++ posts_from new n node.next) here
+      posts = ap (λ o. option_to_list o ++ posts_from new n (node_at new place).next) now ∙ ap (λ x. p ∷ posts_from new n x) next
           ∙ ap (λ posts. p ∷ posts) (deep.1 ∙ sym (behind_first old k n place chain.0));
-      here = ap (λ node. node.post) here;
+      here = now;
       next = next;
       slot = slot;
       others = λ j apart m x h. others x (λ e. other_holds_none old place k j (suc n) chain.0 apart m (subst (HoldsPost old j m) e h));
     }
 
 pub written : (nodes : List Node) (k n place : ℕ) (p : Post) → IsChain nodes k n place → p.due % 256 ≡ k
-    → Written nodes (set nodes place (record (node_at nodes place) { post = Some p })) k n place p
+    → Written nodes (set nodes place (record (node_at nodes place) { post = p })) k n place p
 written nodes k n place p chain is =
-    let node : Node = record (node_at nodes place) { post = Some p } in
+    let node : Node = record (node_at nodes place) { post = p } in
     written-node nodes k n place p chain is (set nodes place node)
     (get_or-set_same nodes place node blank (held_within nodes k n place (chain_head nodes k n place chain)))
     (λ x apart. get_or-set_other nodes place x node blank apart)
@@ -161,7 +176,7 @@ Leads now k n place p m first all = (final : List Node)
 pub leads_more : (now new : List Node) (k n place : ℕ) (p q : Post) (m first : ℕ) (all : List Post)
     → Leads now k (suc n) place p m first all
     → IsChain now k (suc n) place
-    → (node_at now (node_at now place).next).post ≡ Some q
+    → kept_post (node_at now (node_at now place).next) ≡ Some q
     → is_later q p ≡ false
     → Written now new k (suc n) place q
     → Leads new k n (node_at now place).next p m first all
@@ -173,16 +188,16 @@ leads_more now new k n place p q m first all leads chain here early w final same
     let next : (node_at final place).next ≡ y = ap (λ node. node.next) at ∙ w.next in
     let agree : (i x : ℕ) → suc n < i → HoldsPost now k i x → node_at final x ≡ node_at now x = λ i x beyond h.
     let e = w.slot i x (λ is. absurd (omega arith)) h in
-    same i x (omega arith) (subst (λ node. (node.behind ≡ i) × IsSomeAnd node.post (λ r. r.due % 256 ≡ k)) (sym e) h) ∙ e in
+    same i x (omega arith) (subst (λ node. (node.behind ≡ i) × IsSomeAnd (kept_post node) (λ r. r.due % 256 ≡ k)) (sym e) h) ∙ e in
     let whole : IsChain final k (suc n) place =
-    (subst (λ node. (node.behind ≡ suc n) × IsSomeAnd node.post (λ r. r.due % 256 ≡ k)) (sym at) head, subst (IsChain final k n) (sym next) deep) in
+    (subst (λ node. (node.behind ≡ suc n) × IsSomeAnd (kept_post node) (λ r. r.due % 256 ≡ k)) (sym at) head, subst (IsChain final k n) (sym next) deep) in
     let rest = drop 1 (posts_from now n y) in
-    let first_is : (p' : Post) × ((node_at now y).post ≡ Some p') × (posts_from now n y ≡ p' ∷ rest) = chain_posts now k n y chain.1 in
+    let first_is : (p' : Post) × (kept_post (node_at now y) ≡ Some p') × (posts_from now n y ≡ p' ∷ rest) = chain_posts now k n y chain.1 in
     let both : Some first_is.0 ≡ Some q = sym first_is.1 ∙ here in
     let some : first_is.0 ≡ q = cc in
     let old : drop 1 (posts_from now (suc n) place) ≡ q ∷ rest = behind_first now k n place chain.0 ∙ first_is.2 ∙ ap (λ r. r ∷ rest) some in
     let out : posts_from final (suc n) place ≡ q ∷ posts_from final n y =
-    ap (λ node. option_to_list node.post ++ posts_from final n node.next) at
+    ap (λ node. option_to_list (kept_post node) ++ posts_from final n node.next) at
     ∙ ap (λ o. option_to_list o ++ posts_from final n (node_at new place).next) w.here
     ∙ ap (λ x. q ∷ posts_from final n x) w.next in
     leads final agree whole
@@ -208,23 +223,25 @@ put_before : (nodes new : List Node) (k place : ℕ) (slot : Option ℕ) (p : Po
     → next ≡ unwrap_or slot 4294967295 → behind ≡ chain_len nodes slot
     → IsSlot new k (Some place) × (slot_posts new (Some place) ≡ p ∷ slot_posts nodes slot) × KeepsAll nodes new
 put_before nodes new k place None p next behind w chain is link count =
+    let now : kept_post (node_at new place) ≡ Some p = ap kept_post w.1 in
     let last : (node_at new place).behind ≡ zero = ap (λ n. n.behind) w.1 ∙ count in
-    let head : HoldsPost new k zero place = (last, subst (λ n. IsSomeAnd n.post (λ q. q.due % 256 ≡ k)) (sym w.1) is) in (
+    let head : HoldsPost new k zero place = (last, subst (λ o. IsSomeAnd o (λ q. q.due % 256 ≡ k)) (sym now) is) in (
       subst (λ n. IsChain new k n place) (sym last) head,
-      ap (λ n. posts_from new n place) last ∙ ap (λ n. option_to_list n.post) w.1,
+      ap (λ n. posts_from new n place) last ∙ ap option_to_list now,
       written_keeps nodes new place (node_of p next behind) w,
     )
 put_before nodes new k place (Some first) p next behind w chain is link count =
+    let now : kept_post (node_at new place) ≡ Some p = ap kept_post w.1 in
     let c = (node_at nodes first).behind in
     let keeps : KeepsAll nodes new = written_keeps nodes new place (node_of p next behind) w in
     let deep = chain_same nodes new k c first chain (λ m x within. keeps k m x) in
     let more : (node_at new place).behind ≡ suc c = ap (λ n. n.behind) w.1 ∙ count ∙ add-one c in
     let onward : (node_at new place).next ≡ first = ap (λ n. n.next) w.1 ∙ link in
-    let head : HoldsPost new k (suc c) place = (more, subst (λ n. IsSomeAnd n.post (λ q. q.due % 256 ≡ k)) (sym w.1) is) in
+    let head : HoldsPost new k (suc c) place = (more, subst (λ o. IsSomeAnd o (λ q. q.due % 256 ≡ k)) (sym now) is) in
     let whole : IsChain new k (suc c) place = (head, subst (IsChain new k c) (sym onward) deep.0) in (
       subst (λ n. IsChain new k n place) (sym more) whole,
       ap (λ n. posts_from new n place) more
-          ∙ ap (λ n. option_to_list n.post ++ posts_from new c (node_at new place).next) w.1
+          ∙ ap (λ o. option_to_list o ++ posts_from new c (node_at new place).next) now
           ∙ ap (λ x. p ∷ posts_from new c x) onward ∙ ap (λ posts. p ∷ posts) deep.1,
       keeps,
     )
@@ -247,9 +264,9 @@ replaced_all old new n size same =
 abbrev TakesAway : (nodes new : List Node) (k place : ℕ) → Type 0
 TakesAway nodes new k place =
     let rest = rest_of (node_at nodes place) in
-    (p : Post) × ((node_at nodes place).post ≡ Some p) × (slot_posts nodes (Some place) ≡ p ∷ slot_posts new rest) × IsSlot new k rest × ((j : ℕ) → j ≢ k → KeepsSlot nodes new j)
+    (p : Post) × (kept_post (node_at nodes place) ≡ Some p) × (slot_posts nodes (Some place) ≡ p ∷ slot_posts new rest) × IsSlot new k rest × ((j : ℕ) → j ≢ k → KeepsSlot nodes new j)
 
-take_away-at : (nodes : List Node) (k n place : ℕ) (node : Node) → (node_at nodes place).behind ≡ n → IsChain nodes k n place → node.post ≡ None
+take_away-at : (nodes : List Node) (k n place : ℕ) (node : Node) → (node_at nodes place).behind ≡ n → IsChain nodes k n place → kept_post node ≡ None
     → TakesAway nodes (set nodes place node) k place
 take_away-at nodes k zero place node last chain free =
     let new = set nodes place node in
@@ -280,7 +297,7 @@ take_away-at nodes k (suc n) place node more chain free =
       λ j apart. set_keeps nodes place node j (other_holds_none nodes place k j (suc n) chain.0 apart),
     )
 
-pub take_away : (nodes : List Node) (k place : ℕ) (node : Node) → IsSlot nodes k (Some place) → node.post ≡ None → TakesAway nodes (set nodes place node) k place
+pub take_away : (nodes : List Node) (k place : ℕ) (node : Node) → IsSlot nodes k (Some place) → kept_post node ≡ None → TakesAway nodes (set nodes place node) k place
 take_away nodes k place node chain free = take_away-at nodes k (node_at nodes place).behind place node refl chain free
 
 -- ---- the place behind a place
@@ -307,7 +324,7 @@ rest_within nodes k place next chain is =
 
 -- the posts behind the first are those from the next place on
 rest_posts : (nodes : List Node) (k place next : ℕ) → IsSlot nodes k (Some place) → rest_of (node_at nodes place) ≡ Some next
-    → (q : Post) × ((node_at nodes next).post ≡ Some q) × (posts : List Post) × (drop 1 (slot_posts nodes (Some place)) ≡ q ∷ posts)
+    → (q : Post) × (kept_post (node_at nodes next) ≡ Some q) × (posts : List Post) × (drop 1 (slot_posts nodes (Some place)) ≡ q ∷ posts)
 rest_posts nodes k place next chain is =
     let rest = rest_place nodes k place next chain is in
     let m = rest.0 in
@@ -319,8 +336,8 @@ rest_posts nodes k place next chain is =
     )
 
 -- a post before the next one, and before none
-pub stands_before : (nodes : List Node) (k place next : ℕ) (p q : Post) → IsSlot nodes k (Some place) → rest_of (node_at nodes place) ≡ Some next
-    → (node_at nodes next).post ≡ Some q → is_later q p ≡ true → StandsBefore nodes place p
+stands_before : (nodes : List Node) (k place next : ℕ) (p q : Post) → IsSlot nodes k (Some place) → rest_of (node_at nodes place) ≡ Some next
+    → kept_post (node_at nodes next) ≡ Some q → is_later q p ≡ true → StandsBefore nodes place p
 stands_before nodes k place next p q chain is here later =
     let rest = rest_posts nodes k place next chain is in
     let both : Some rest.0 ≡ Some q = sym rest.1 ∙ here in
@@ -341,10 +358,23 @@ pub stands_last : (nodes : List Node) (k place : ℕ) (p : Post) → IsSlot node
 stands_last nodes k place p chain is = last_stands nodes k (node_at nodes place).behind place p refl chain is
 
 -- the next place has a post
-pub rest_held : (nodes : List Node) (k place next : ℕ) → IsSlot nodes k (Some place) → rest_of (node_at nodes place) ≡ Some next → (node_at nodes next).post ≡ None → ⊥
-rest_held nodes k place next chain is none =
+rest_kept : (nodes : List Node) (k place next : ℕ) → IsSlot nodes k (Some place) → rest_of (node_at nodes place) ≡ Some next
+    → kept_post (node_at nodes next) ≡ Some (node_at nodes next).post
+rest_kept nodes k place next chain is =
+    let rest = rest_posts nodes k place next chain is in
+    rest.1 ∙ ap Some (sym (kept_is (node_at nodes next) rest.0 rest.1))
+
+-- which comes later than another, or doesn't
+pub next_later : (nodes : List Node) (k place next : ℕ) (p : Post) → IsSlot nodes k (Some place) → rest_of (node_at nodes place) ≡ Some next
+    → is_later (node_at nodes next).post p ≡ true → StandsBefore nodes place p
+next_later nodes k place next p chain is later =
+    stands_before nodes k place next p (node_at nodes next).post chain is (rest_kept nodes k place next chain is) later
+
+pub next_no_later : (nodes : List Node) (k place next : ℕ) (p : Post) → IsSlot nodes k (Some place) → rest_of (node_at nodes place) ≡ Some next
+    → is_later (node_at nodes next).post p ≡ false → IsNextNoLater nodes place p next
+next_no_later nodes k place next p chain is early =
     let rest = rest_place nodes k place next chain is in
-    free_holds_none nodes next k rest.0 none (chain_head nodes k rest.0 next rest.4)
+    (omega (arith, rest.1), rest.2, subst (λ o. IsSomeAnd o (λ q. is_later q p ≡ false)) (sym (rest_kept nodes k place next chain is)) early)
 
 -- ---- one step of settling
 
@@ -359,7 +389,7 @@ Steps now new k next p m first all bound =
 
 step_at : (now new : List Node) (k n place : ℕ) (p q : Post) (m first : ℕ) (all : List Post)
     → IsChain now k (suc n) place → Leads now k (suc n) place p m first all
-    → (node_at now (node_at now place).next).post ≡ Some q → is_later q p ≡ false
+    → kept_post (node_at now (node_at now place).next) ≡ Some q → is_later q p ≡ false
     → Written now new k (suc n) place q
     → Steps now new k (node_at now place).next p m first all (suc n)
 step_at now new k n place p q m first all chain leads here early w =
@@ -377,29 +407,29 @@ pub step : (now : List Node) (k place next : ℕ) (p : Post) (m first : ℕ) (al
     → Steps now (set now place (record (node_at now place) { post = (node_at now next).post })) k next p m first all (node_at now place).behind
 step now k place next p m first all chain leads go =
     let y = (node_at now place).next in
-    let found = some_that (λ q. is_later q p ≡ false) (node_at now next).post go.2 in
+    let found = some_that (λ q. is_later q p ≡ false) (kept_post (node_at now next)) go.2 in
     let q = found.0 in
     let n = (node_at now place).behind - 1 in
     let more : (node_at now place).behind ≡ suc n = omega (arith, go.0) in
     let whole : IsChain now k (suc n) place = subst (λ i. IsChain now k i place) more chain in
-    let at_next : (node_at now y).post ≡ Some q = ap (λ x. (node_at now x).post) (sym go.1) ∙ found.1 in
+    let at_next : kept_post (node_at now y) ≡ Some q = ap (λ x. kept_post (node_at now x)) (sym go.1) ∙ found.1 in
     let held = held_post now k n y (chain_head now k n y whole.1) in
     let both : Some held.0 ≡ Some q = sym held.1 ∙ at_next in
     let same : held.0 ≡ q = cc in
     let w = written now k (suc n) place q whole (ap (λ x. x.due % 256) (sym same) ∙ held.2) in
-    let steps = step_at now (set now place (record (node_at now place) { post = Some q })) k n place p q m first all whole (subst (λ i. Leads now k i place p m first all) more leads) at_next found.2 w in
-    subst (λ o. Steps now (set now place (record (node_at now place) { post = o })) k next p m first all (node_at now place).behind) (sym found.1)
-    (subst (λ x. Steps now (set now place (record (node_at now place) { post = Some q })) k x p m first all (node_at now place).behind) (sym go.1)
-    (subst (λ i. Steps now (set now place (record (node_at now place) { post = Some q })) k y p m first all i) (sym more) steps))
+    let steps = step_at now (set now place (record (node_at now place) { post = q })) k n place p q m first all whole (subst (λ i. Leads now k i place p m first all) more leads) at_next found.2 w in
+    subst (λ r. Steps now (set now place (record (node_at now place) { post = r })) k next p m first all (node_at now place).behind) (sym (kept_is (node_at now next) q found.1))
+    (subst (λ x. Steps now (set now place (record (node_at now place) { post = q })) k x p m first all (node_at now place).behind) (sym go.1)
+    (subst (λ i. Steps now (set now place (record (node_at now place) { post = q })) k y p m first all i) (sym more) steps))
 
 -- the last write
 pub last_step : (now : List Node) (k place : ℕ) (p : Post) (m first : ℕ) (all : List Post)
     → IsSlot now k (Some place) → Leads now k (node_at now place).behind place p m first all → p.due % 256 ≡ k → StandsBefore now place p
-    → let new = set now place (record (node_at now place) { post = Some p }) in
+    → let new = set now place (record (node_at now place) { post = p }) in
     IsSlot new k (Some first) × (slot_posts new (Some first) ≡ all) × ((j : ℕ) → j ≢ k → KeepsSlot now new j)
 last_step now k place p m first all chain leads is stands =
     let n = (node_at now place).behind in
-    let new = set now place (record (node_at now place) { post = Some p }) in
+    let new = set now place (record (node_at now place) { post = p }) in
     let w = written now k n place p chain is in
     let done = settled now new k n place p m first all leads w stands in
     let count : (node_at new first).behind ≡ m = (chain_head new k m first done.0).0 in

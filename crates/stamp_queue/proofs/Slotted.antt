@@ -8,7 +8,7 @@ use Rattle.slack_base.specs.declared.messages.Post.{Post}
 use Rattle.slack_base.specs.Inboxes.{with_post}
 use Rattle.stamp_queue.specs.declared.inbox.nodes.Node.{Node}
 use Rattle.stamp_queue.specs.Inbox.{next_due}
-use Rattle.stamp_queue.specs.Slots.{node_at, posts_from, slot_posts, IsSlot, KeepsSlot, KeepsAll, AreSlots, rest_of}
+use Rattle.stamp_queue.specs.Slots.{kept_post, node_at, posts_from, slot_posts, IsSlot, KeepsSlot, KeepsAll, AreSlots, rest_of}
 use Rattle.stamp_queue.specs.Wheel.{posts_in, TakesFirst}
 use Rattle.stamp_queue.proofs.Chains.{slot_same, chain_posts, take_away}
 
@@ -67,7 +67,7 @@ slot_empty nodes k (Some place) h e =
     let no : head.0 ∷ drop 1 (posts_from nodes (node_at nodes place).behind place) ≡ [] = sym head.2 ∙ e in absurd cc
 
 -- the due of the first post of a slot
-pub first_due : (nodes : List Node) (k place : ℕ) (p : Post) → IsSlot nodes k (Some place) → (node_at nodes place).post ≡ Some p → next_due (slot_posts nodes (Some place)) ≡ p.due
+pub first_due : (nodes : List Node) (k place : ℕ) (p : Post) → IsSlot nodes k (Some place) → kept_post (node_at nodes place) ≡ Some p → next_due (slot_posts nodes (Some place)) ≡ p.due
 first_due nodes k place p h is =
     let head = chain_posts nodes k (node_at nodes place).behind place h in
     let both : Some head.0 ≡ Some p = sym head.1 ∙ is in
@@ -89,9 +89,9 @@ put_shows old new slots k slot place p now all within is are shows here keeps =
 -- and a take: the slot has lost its first
 pub take_shows : (nodes : List Node) (slots : List (Option ℕ)) (k place : ℕ) (node : Node) (rest : Option ℕ) (now : List (List Post))
     → length slots ≡ 256 → k < 256 → get_or slots k None ≡ Some place → AreSlots nodes slots → map (slot_posts nodes) slots ≡ now
-    → node.post ≡ None → rest ≡ rest_of (node_at nodes place)
+    → kept_post node ≡ None → rest ≡ rest_of (node_at nodes place)
     → let new = set nodes place node in
-    AreSlots new (set slots k rest) × (p : Post) × ((node_at nodes place).post ≡ Some p) × TakesFirst now (map (slot_posts new) (set slots k rest)) k p
+    AreSlots new (set slots k rest) × (p : Post) × (kept_post (node_at nodes place) ≡ Some p) × TakesFirst now (map (slot_posts new) (set slots k rest)) k p
 take_shows nodes slots k place node rest now all within is are shows free rest_is =
     let new = set nodes place node in
     let chain : IsSlot nodes k (Some place) = subst (IsSlot nodes k) is (are k within) in

@@ -11,35 +11,26 @@ use slack_base::{OutOfMemory, Post};
 pub(super) const NOWHERE: u32 = u32::MAX;
 
 /// A post of a slot: with the place of the next post of the slot, and how many stand behind it there. Or a place that
-/// is free: with no post, and the place of the next that is free.
+/// is free: with a post that was taken, and the place of the next that is free.
 #[derive(Clone, Copy, Debug)]
 pub(super) struct Node {
-    pub post: Option<Post>,
+    pub post: Post,
     pub next: u32,
     pub behind: u32,
+    pub is_used: bool,
 }
 
 impl Node {
-    ghost use Rattle.std.specs.Prelude.{◌≡◌, IfSome};
+    ghost use Rattle.std.specs.Prelude.{◌≡◌};
     ghost use Rattle.std.specs.declared.option.Option.TheVariants.{None};
-    ghost use Rattle.stamp_queue.specs.Slots.{rest_of};
+    ghost use Rattle.stamp_queue.specs.Slots.{kept_post, rest_of};
 
     /// The node is free from now on, with the place of the next that is free.
     pub fn release(&mut self, next: u32)
-        ensures { self.new.post ≡ None }
+        ensures { kept_post self.new ≡ None }
     {
-        self.post = None;
+        self.is_used = false;
         self.next = next;
-    }
-
-    /// The due of the node's post: the greatest `u64` where it has none.
-    pub fn due(&self) -> u64
-        ensures { IfSome self.now.post (λ post. result ≡ post.due) }
-    {
-        match &self.post {
-            Some(post) => post.due,
-            None => u64::MAX,
-        }
     }
 
     /// The place of the next post of the slot, if there is one.
@@ -104,9 +95,10 @@ fn put_node(
     if is_free(nodes, place) {
         *free = nodes[place as usize].next;
         nodes[place as usize] = Node {
-            post: Some(*post),
+            post: *post,
             next,
             behind,
+            is_used: true,
         };
         return Ok(place);
     }
@@ -124,9 +116,10 @@ fn push_node(nodes: &mut Vec<Node>, post: &Post, next: u32, behind: u32) -> Resu
         return Err(OutOfMemory);
     };
     nodes.push(Node {
-        post: Some(*post),
+        post: *post,
         next,
         behind,
+        is_used: true,
     })?;
     Ok(place)
 }
@@ -136,7 +129,7 @@ fn is_free(nodes: &[Node], place: u32) -> bool
     ensures { IsTrue result → IsFreeIn nodes.now place }
 {
     match nodes.get(place as usize) {
-        Some(node) => node.post.is_none(),
+        Some(node) => !node.is_used,
         None => false,
     }
 }
@@ -155,7 +148,7 @@ fn settle(nodes: &mut [Node], first: u32, post: Post)
         nodes[place as usize].post = nodes[next as usize].post;
         place = next;
     }
-    nodes[place as usize].post = Some(post);
+    nodes[place as usize].post = post;
 }
 
 /// The place of the next post of the slot, if there is one and it is no later.
@@ -164,7 +157,7 @@ fn next_no_later(nodes: &[Node], place: u32, post: &Post) -> Option<u32>
     ensures { MatchOption result (StandsBefore nodes.now place post.now) (IsNextNoLater nodes.now place post.now) }
 {
     let next = nodes[place as usize].rest()?;
-    let other = nodes[next as usize].post?;
+    let other = nodes[next as usize].post;
     if is_later(&other, post) {
         None
     } else {

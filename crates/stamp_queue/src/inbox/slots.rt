@@ -81,7 +81,7 @@ impl Slots {
         self.firsts[slot] = node.rest();
         node.release(self.free);
         self.free = place;
-        post
+        Some(post)
     }
 
     /// The due of the first post of a slot: the greatest `u64` where there is none.
@@ -90,7 +90,7 @@ impl Slots {
         ensures { result ≡ next_due (posts_in self.now slot) }
     {
         match self.firsts[slot] {
-            Some(place) => self.nodes[place as usize].due(),
+            Some(place) => self.nodes[place as usize].post.due,
             None => u64::MAX,
         }
     }

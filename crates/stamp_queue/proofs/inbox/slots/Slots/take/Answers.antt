@@ -1,7 +1,7 @@
 use Rattle.std.proofs.Common.{◌≡◌, ◌∙◌, ap, length, rules, Some, subst}
 use Rattle.std.proofs.lemmas.List.{get_or_default}
 use Rattle.stamp_queue.specs.Slots.{blank, node_at, IsSlot, rest_of}
-use Rattle.stamp_queue.proofs.Chains.{chain_head, held_within}
+use Rattle.stamp_queue.proofs.Chains.{chain_head, held_within, kept_is}
 use Rattle.stamp_queue.proofs.Slotted.{take_shows}
 use Rattle.stamp_queue.proofs.inbox.slots.Slots.take.Goals as goal
 
@@ -27,4 +27,4 @@ returns c =
     let node_is : c.index_mut-node.result.now ≡ node_at nodes place = c.index_mut-node.ensures.value ∙ get_or_default nodes place c.index_mut-node.result.now blank within in
     let shows = take_shows nodes c.self.inside.firsts c.args.slot place c.release.new.self c.rest.result c.args.self.now all c.requires c.in_ok-place.was
     c.self.invariant c.self.view_is c.release.ensures (c.rest.ensures ∙ ap rest_of node_is) in
-    rw (ap (λ node. node.post) node_is ∙ shows.2) shows.3
+    rw (ap (λ node. node.post) node_is ∙ kept_is (node_at nodes place) shows.1 shows.2) shows.3
