@@ -1,7 +1,7 @@
 -- As far as its next instructions tell, a hart asks for nothing.
-use Rattle.std.proofs.Common.{◌≡◌, ◌≢◌, ◌∙◌, ℕ, ℤ, zero, suc, ◌+◌, ◌-◌, ◌<◌, ◌≤◌, ◌%◌, ◌==◌, Bool, true, false, not, ◌||◌, Option, None, Some, List, [], ◌++◌, length, get_or, set, replicate, min, ◌⊎◌, inl, inr, refl, sym, ap, subst, arith, cond, length-set, get_or-set_same, get_or-set_other}
-use Rattle.std.specs.Prelude.{slice_index, slice_index_or, slice_set, IfSome, ◌&&◌}
-use Rattle.std.specs.Option.{option_map, is_none}
+use Rattle.std.proofs.Common.{◌≡◌, ◌≢◌, ◌∙◌, ℕ, ℤ, zero, suc, ◌+◌, ◌-◌, ◌<◌, ◌≤◌, ◌%◌, ◌==◌, Bool, true, false, not, Option, None, Some, List, [], ◌++◌, length, get_or, set, ◌⊎◌, inl, inr, refl, sym, ap, subst, arith, cond, length-set, get_or-set_same, get_or-set_other}
+use Rattle.std.specs.Prelude.{slice_index, slice_index_or, slice_set, ◌&&◌}
+use Rattle.std.specs.Option.{option_map}
 use Rattle.std.proofs.Math.ListN.{get_or-eq_default}
 use Rattle.std.proofs.lemmas.Bool.{cases_Bool, cases_eq, cases_lt, true≢false}
 use Rattle.std.proofs.lemmas.Bool.Decides.{nat_tests}
@@ -17,18 +17,17 @@ use Rattle.rv_exec.specs.Access.{load_of, store_of}
 use Rattle.rv_exec.specs.Target.{target_of}
 use Rattle.rv_exec.specs.Branch.{is_taken}
 use Rattle.mesi_cache.specs.declared.lines.CacheLine.{CacheLine}
-use Rattle.mesi_cache.specs.declared.lines.Held.{Held}
-use Rattle.mesi_cache.specs.Lines.{held_line, may_write, written}
+use Rattle.mesi_cache.specs.Lines.{held_line, written}
 use Rattle.mesi_cache.specs.Words.{word_of}
 use Rattle.mesi_cache.specs.Caches.{CacheValue, IsCache, line_in, read_line, write_line}
 use Rattle.timed_core.specs.Accesses.{is_aligned, is_write, hits, word_in_line, held_in, with_access, hit, missed, looked_up, tried, accessed}
-use Rattle.timed_core.specs.Code.{CodeValue, word_at, instr_at, is_in_memory}
-use Rattle.timed_core.specs.Cores.{HartValue, is_running, with_register, next_of, completed, goes_on, gives, line_number}
-use Rattle.timed_core.specs.Effects.{even_of, goes_to, reg_cost_of, effect_of, cost_of}
-use Rattle.timed_core.specs.Foresight.{hits_state, hits_line, hits_ahead, after_write, after_pass, after_jump, load_course, store_course, course_of, cycles_by, goes_on as goes_further, cycles_ahead, here}
-use Rattle.timed_core.specs.Outcomes.{IsReady, executed}
+use Rattle.timed_core.specs.Code.{CodeValue, instr_at, is_in_memory}
+use Rattle.timed_core.specs.Cores.{HartValue, is_running, with_register, next_of, goes_on, gives, line_number}
+use Rattle.timed_core.specs.Effects.{goes_to, reg_cost_of, effect_of}
+use Rattle.timed_core.specs.Foresight.{hits_state, hits_line, hits_ahead, after_write, after_pass, after_jump, course_of, cycles_by, goes_on as goes_further, cycles_ahead, here}
+use Rattle.timed_core.specs.Outcomes.{executed}
 use Rattle.timed_core.specs.Stretches.{stretch}
-use Rattle.timed_core.specs.Ticks.{asks_of, id_at, fetched, performed, stepped}
+use Rattle.timed_core.specs.Ticks.{asks_of, id_at, performed, stepped}
 use Rattle.timed_core.specs.Touches.{touched_at}
 use Rattle.timed_core.specs.declared.accesses.Access.{Access}
 use Rattle.timed_core.specs.declared.accesses.Access.TheVariants.{Load, Store}
@@ -38,7 +37,7 @@ use Rattle.timed_core.specs.declared.harts.foresight.Ahead.{Ahead}
 use Rattle.timed_core.specs.declared.harts.foresight.Course.{Course}
 use Rattle.timed_core.specs.declared.harts.foresight.Course.TheVariants.{MayAsk, Turns, GoesOn}
 use Rattle.timed_core.proofs.Fetching.{executed_of}
-use Rattle.timed_core.proofs.Held.{held, read_held, write_other, write_same, read_is, write_is}
+use Rattle.timed_core.proofs.Held.{read_held, write_other, write_same, read_is, write_is}
 use Rattle.timed_core.proofs.Stretches.{ready_step, busy_step, ended_leap}
 
 -- a register that isn't among those written keeps its word

@@ -1,5 +1,5 @@
 -- For how many cycles a hart to which no post comes certainly asks for nothing, as its next instructions tell.
-use Rattle.std.specs.Prelude.{ℕ, ℤ, zero, suc, ◌+◌, ◌&&◌, Bool, true, false, not, ◌||◌, Option, Some, None, List, replicate, min, slice_index, slice_index_or, slice_set, if◌then◌else◌}
+use Rattle.std.specs.Prelude.{ℕ, ℤ, zero, suc, ◌+◌, ◌&&◌, Bool, true, false, not, ◌||◌, Option, Some, None, replicate, min, slice_index, slice_index_or, slice_set, if◌then◌else◌}
 use Rattle.slack_base.specs.declared.instructions.Instr.{Instr}
 use Rattle.slack_base.specs.declared.instructions.Instr.TheVariants.{Lui, Auipc, Jal, Jalr, Branch, Load, Store, Imm, Shift, Reg, Lr, Sc, Amo, Fence, Ecall, Ebreak}
 use Rattle.rv_exec.specs.Target.{target_of}

@@ -1,5 +1,5 @@
-use Rattle.std.proofs.Common.{◌≡◌, ◌∙◌, ◌+◌, ◌-◌, ◌*◌, ◌^◌, ◌<◌, ◌≤◌, ℕ, cond, min, refl, sym, ap, arith, rules}
-use Rattle.timed_core.specs.Foresight.{cycles_ahead, here, cycles_by, goes_on}
+use Rattle.std.proofs.Common.{◌≡◌, ◌∙◌, ◌+◌, ◌-◌, cond, sym, ap, arith, rules}
+use Rattle.timed_core.specs.Foresight.{cycles_ahead, here, cycles_by}
 use Rattle.timed_core.proofs.Foresight.{looked, none_left}
 use Rattle.timed_core.proofs.harts.Hart.foresee.Goals.{then-loop-left-test+else-cycles-most, else-loop-left-test}
 use Rattle.timed_core.proofs.harts.Hart.foresee.Goals as goal
