@@ -21,13 +21,14 @@ pub(super) struct Node {
 }
 
 impl Node {
-    ghost use Rattle.std.specs.Prelude.{◌≡◌};
+    ghost use Rattle.std.specs.Prelude.{◌≡◌, false};
     ghost use Rattle.std.specs.declared.option.Option.TheVariants.{None};
     ghost use Rattle.stamp_queue.specs.Slots.{kept_post, rest_of};
 
     /// The node is free from now on, with the place of the next that is free.
     pub fn release(&mut self, next: u32)
-        ensures { kept_post self.new ≡ None }
+        ensures node { self.new ≡ record self.old { next = next; is_used = false } }
+        ensures free { kept_post self.new ≡ None }
     {
         self.is_used = false;
         self.next = next;

@@ -14,7 +14,7 @@ invariant_of-self c =
     let within = held_within nodes c.args.slot _ place (chain_head nodes c.args.slot _ place chain) in
     let node_is : c.index_mut-node.result.now ≡ node_at nodes place = c.index_mut-node.ensures.value ∙ get_or_default nodes place c.index_mut-node.result.now blank within in
     let shows = take_shows nodes c.self.inside.firsts c.args.slot place c.release.new.self c.rest.result c.args.self.now all c.requires c.in_ok-place.was
-    c.self.invariant c.self.view_is c.release.ensures (c.rest.ensures ∙ ap rest_of node_is) in
+    c.self.invariant c.self.view_is c.release.ensures.free (c.rest.ensures ∙ ap rest_of node_is) in
     shows.0
 
 pub returns : goal.returns
@@ -26,5 +26,5 @@ returns c =
     let within = held_within nodes c.args.slot _ place (chain_head nodes c.args.slot _ place chain) in
     let node_is : c.index_mut-node.result.now ≡ node_at nodes place = c.index_mut-node.ensures.value ∙ get_or_default nodes place c.index_mut-node.result.now blank within in
     let shows = take_shows nodes c.self.inside.firsts c.args.slot place c.release.new.self c.rest.result c.args.self.now all c.requires c.in_ok-place.was
-    c.self.invariant c.self.view_is c.release.ensures (c.rest.ensures ∙ ap rest_of node_is) in
+    c.self.invariant c.self.view_is c.release.ensures.free (c.rest.ensures ∙ ap rest_of node_is) in
     rw (ap (λ node. node.post) node_is ∙ kept_is (node_at nodes place) shows.1 shows.2) shows.3
