@@ -1,10 +1,10 @@
 -- What a call hands back of a run beside its answer.
 use Rattle.std.specs.Prelude.{ℕ, List, [], Option, Some, None}
 use Rattle.slack_base.specs.declared.notes.Interval.{Interval}
-use Rattle.slack_base.specs.Inboxes.{CoreValue}
 use Rattle.slack_base.specs.Marks.{Marked}
 use Rattle.bus_model.specs.Channels.{ChannelValue}
 use Rattle.timed_core.specs.Cores.{HartValue}
+use Rattle.timed_core.specs.Views.{MarkedCore}
 use Rattle.target_law.specs.Cycles.{StateValue}
 use Rattle.target_law.specs.declared.states.State.{State}
 use Rattle.lockstep_model.specs.Views.{machine_of}
@@ -29,7 +29,7 @@ no_run = record { end = None; notes = []; drift_ticks = 0; replay_ticks = 0 }
 abbrev pub run_of : (cores : ℕ) → List Interval → StateValue HartValue ChannelValue → RunValue
 run_of cores notes m = record { end = Some m; notes = notes; drift_ticks = drift_ticks_of cores notes; replay_ticks = replay_ticks_of cores notes }
 
-abbrev pub value_at : Option (State RvTarget (Marked (CoreValue HartValue)) (Marked ChannelValue)) → Option (StateValue HartValue ChannelValue)
+abbrev pub value_at : Option (State RvTarget MarkedCore (Marked ChannelValue)) → Option (StateValue HartValue ChannelValue)
 value_at None = None
 value_at (Some m) = Some (machine_of m)
 

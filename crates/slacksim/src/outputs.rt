@@ -7,7 +7,7 @@ ghost use Rattle.image_load.specs.Writing.{IsPackable};
 ghost use Rattle.rv_asm.specs.Programs.{IsAssembly, program_of};
 ghost use Rattle.sim_words.specs.OrderValues.{order_value};
 ghost use Rattle.stat_report.specs.Listing.{IsListing};
-ghost use Rattle.lockstep_model.specs.Views.{machine_of, values_of};
+ghost use Rattle.lockstep_model.specs.Views.{cores_of, machine_of};
 ghost use Rattle.slacksim.specs.Answers.{IsRefusedBy, IsWhole, answer_at, answer_of, all_zero_of, is_zero_exit, running_of};
 ghost use Rattle.slacksim.specs.Inputs.{image_told, image_refusal, text_refusal, refusal_by};
 ghost use Rattle.target_law.specs.Ticks.{drift_ticks_of, replay_ticks_of};
@@ -239,14 +239,14 @@ fn final_answer(machine: &Machine) -> Answer
 /// How many cores are running.
 fn running(cores: &[TimedCore]) -> u32
     requires { length cores.now ≤ MOST_CORES }
-    ensures { result ≡ running_of (values_of cores.now) }
+    ensures { result ≡ running_of (cores_of cores.now) }
 {
     cores.iter().filter(|core| core.is_running()).count() as u32
 }
 
 /// Whether all cores exited with 0.
 fn all_zero(cores: &[TimedCore]) -> bool
-    ensures { result ≡ all_zero_of (values_of cores.now) }
+    ensures { result ≡ all_zero_of (cores_of cores.now) }
 {
     cores.iter().all(|core| is_zero_exit(core.end()))
 }
