@@ -1,5 +1,6 @@
 //! A machine that drifted away from its mark, and was taken back to it.
 ghost use Rattle.std.specs.Prelude.{◌≡◌, ◌+◌, ◌≤◌, IfOk};
+ghost use Rattle.checkpoint.specs.Marked.{IsMarkedWhole};
 ghost use Rattle.slack_base.specs.declared.bounds.TheConstants.{TOP};
 ghost use Rattle.slack_base.specs.Numbers.{numbers_of};
 ghost use Rattle.target_law.specs.Marks.{IsMarkedAt};
@@ -7,7 +8,7 @@ ghost use Rattle.target_law.specs.Proper.{IsProper};
 ghost use Rattle.lockstep_model.specs.Rules.{owns_of, rules_of, stored_values};
 ghost use Rattle.lockstep_model.specs.Views.{machine_of};
 
-use crate::machines::{STORES, are_same, config_of, image_of};
+use crate::machines::{STORES, are_same, config_of, image_of, image_of_text};
 use checkpoint::Checkpoint;
 use drift_run::{Pace, drift_serial};
 use io_edge::NeverHold;
@@ -74,6 +75,38 @@ fn a_machine_is_taken_back(rt: HostRuntime) -> Result<(), Fail> {
     assert!(rt; are_same(&machine, &other));
     run_to(alloc, &target, &mut other, 100)?;
     assert!(rt; !are_same(&machine, &other));
+    Ok(())
+}
+
+/// `lui x8, 1`, loads of lines 256, 257 and 256, and an exit with 0.
+const TWO_LINES: &[u8] =
+    b"lui x8, 1\nlw x5, 0(x8)\nlw x5, 16(x8)\nlw x5, 0(x8)\naddi x17, x0, 93\naddi x10, x0, 0\necall\n";
+
+/// How many sets core 0 has noted, and how many lines bus 0.
+fn noted_in(machine: &Machine) -> Option<(u64, u64)>
+    requires { IsMarkedWhole stored_values machine.now }
+{
+    let core = machine.cores.get(0)?;
+    let bus = machine.chans.get(0)?;
+    Some((core.noted(), bus.noted()))
+}
+
+/// One core, marked before the first cycle. It fills the sets of lines 256 and 257, and the bus sends these two lines.
+#[test]
+fn two_lines_are_noted(rt: HostRuntime) -> Result<(), Fail> {
+    let alloc = rt.alloc();
+    let config = config_of(&rt, 1);
+    let image = image_of_text(&rt, &config, TWO_LINES);
+    let target = RvTarget::make(alloc, config, &image)?;
+    let machine = start(alloc, &target, &image)?;
+    let Away {
+        checkpoint,
+        mut machine,
+    } = drift_away(alloc, &target, machine, 37)?;
+    assert_eq!(rt; machine.clock, 37);
+    assert_eq!(rt; noted_in(&machine), Some((2, 2)));
+    checkpoint.restore(&target, &mut machine);
+    assert!(rt; are_same(&machine, &start(alloc, &target, &image)?));
     Ok(())
 }
 
