@@ -7,7 +7,7 @@ use Rattle.bus_model.specs.Channels.{ChannelValue}
 use Rattle.slack_base.specs.Inboxes.{CoreValue}
 use Rattle.timed_core.specs.Cores.{HartValue}
 use Rattle.target_law.specs.Cycles.{StateValue}
-use Rattle.stat_report.specs.Json.{bus_data, buses_data, core_data, core_object, cores_data, has_number, json_of}
+use Rattle.stat_report.specs.Json.{bus_data, buses_data, core_data, core_object, cores_data, has_number, json_of, report_object}
 
 -- what is made of a list by a function that makes no float
 module _ {X : Type 0} (f : X → Data) (whole : (x : X) → has_float (f x) ≡ false) where
@@ -35,5 +35,5 @@ both_whole : (a b : Bool) → a ≡ false → b ≡ false → (a || (false || (b
 both_whole a b x y = ap (λ (c : Bool). c || (false || (b || (false || false)))) x ∙ ap (λ (c : Bool). c || (false || false)) y
 
 pub report_whole : (m : StateValue HartValue ChannelValue) → has_float (json_of m) ≡ false
-unfolding json_of
+unfolding json_of report_object
 report_whole m = both_whole (items_have_float (items_of (buses_data m.chans))) (items_have_float (items_of (cores_data m.clock m.cores))) (buses_whole m.chans) (cores_whole m.clock m.cores)

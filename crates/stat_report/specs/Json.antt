@@ -63,11 +63,15 @@ hex_byte byte = hex_digit (byte / 16) ∷ hex_digit (byte % 16) ∷ []
 unfoldable pub hex_bytes : List ℕ → List ℕ
 hex_bytes bytes = flat_map hex_byte bytes
 
--- the report of a machine, the members of each object in the order of their names
+-- the object of a report, the members in the order of their names
+unfoldable pub report_object : (buses : List Data) (console : List ℕ) (cores : List Data) (cycles : ℕ) → Data
+report_object buses console cores cycles =
+    object (member (codes "buses") (array (items_of buses)) (member (codes "console") (string console)
+    (member (codes "cores") (array (items_of cores)) (member (codes "cycles") (count cycles) no_members))))
+
+-- the report of a machine
 unfoldable pub json_of : StateValue HartValue ChannelValue → Data
-json_of m =
-    object (member (codes "buses") (array (items_of (buses_data m.chans))) (member (codes "console") (string (hex_bytes (console_of m.chans)))
-    (member (codes "cores") (array (items_of (cores_data m.clock m.cores))) (member (codes "cycles") (count (cycles_of m.clock m.cores)) no_members))))
+json_of m = report_object (buses_data m.chans) (hex_bytes (console_of m.chans)) (cores_data m.clock m.cores) (cycles_of m.clock m.cores)
 
 -- its text
 unfoldable pub json_text : StateValue HartValue ChannelValue → List ℕ

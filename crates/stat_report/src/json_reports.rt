@@ -3,7 +3,7 @@ ghost use Rattle.std.specs.Prelude.{◌≡◌, ◌++◌, ◌∷◌, [], ◌<◌,
 ghost use Rattle.serde_json.specs.Data.{put as with_member};
 ghost use Rattle.serde_json.specs.View.{members_view, view};
 ghost use Rattle.plain_text.specs.Pieces.{hex_digit};
-ghost use Rattle.stat_report.specs.Json.{bus_data, buses_data, core_object, count, cores_data, end_name, end_value, hex_byte, hex_bytes, json_of, json_text};
+ghost use Rattle.stat_report.specs.Json.{bus_data, buses_data, core_object, count, cores_data, end_name, end_value, hex_byte, hex_bytes, json_of, json_text, report_object};
 ghost use Rattle.lockstep_model.specs.Views.{cores_of, machine_of, values_of};
 ghost use Rattle.stat_report.specs.Report.{console_of};
 
@@ -36,14 +36,30 @@ fn machine_value(alloc: Global, machine: &Machine) -> Result<Value, OutOfMemory>
 {
     let cores = machine.cores.as_slice();
     let chans = machine.chans.as_slice();
-    let bus_values = bus_values(alloc, chans)?;
+    let buses = bus_values(alloc, chans)?;
     let console = console_digits(alloc, chans)?;
     let core_values = core_values(alloc, machine.clock, cores)?;
+    let cycles = cycles(machine.clock, cores);
+    let value = report_object(alloc, buses, console, core_values, cycles)?;
+    Ok(value)
+}
+
+/// The object of a report, the members in the order of their names.
+#[tactic(auto, unfolding(crate::specs::Json::report_object))]
+fn report_object(
+    alloc: Global,
+    buses: Vec<Value>,
+    console: String,
+    cores: Vec<Value>,
+    cycles: u64,
+) -> Result<Value, OutOfMemory>
+    ensures { IfOk result (λ value. view value ≡ report_object (map view buses.items) (string_bytes console) (map view cores.items) cycles) }
+{
     let value = json!(in alloc; {
-        "buses": bus_values,
+        "buses": buses,
         "console": console,
-        "cores": core_values,
-        "cycles": cycles(machine.clock, cores)
+        "cores": cores,
+        "cycles": cycles
     })?;
     Ok(value)
 }
