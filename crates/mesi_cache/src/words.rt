@@ -26,17 +26,16 @@ pub fn with_word(words: &Words, place: u32, value: u32) -> Words
     changed
 }
 
-/// Puts another word at a place, 0 to 3, with no jump.
+/// Puts another word at a place, 0 to 3.
 #[inline]
 pub fn put_word(words: &mut Words, place: u32, value: u32)
     requires { place < 4 }
     ensures { words.new ≡ with_word words.old place value }
 {
-    let Words { w0, w1, w2, w3 } = *words;
-    *words = Words {
-        w0: if place == 0 { value } else { w0 },
-        w1: if place == 1 { value } else { w1 },
-        w2: if place == 2 { value } else { w2 },
-        w3: if place == 3 { value } else { w3 },
-    };
+    match place {
+        0 => words.w0 = value,
+        1 => words.w1 = value,
+        2 => words.w2 = value,
+        _ => words.w3 = value,
+    }
 }
