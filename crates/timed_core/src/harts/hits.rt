@@ -1,7 +1,8 @@
 //! What an access to memory does to a hart: it hits or misses its line, fails or ends the hart.
-ghost use Rattle.std.specs.Prelude.{◌≡◌, ◌≤◌, ◌<◌, ◌+◌, ◌%◌, ℕ, Some, IsTrue, length};
+ghost use Rattle.std.specs.Prelude.{◌≡◌, ◌≤◌, ◌<◌, ◌+◌, ◌%◌, ℕ, Some, IfSome, IsTrue, length};
+ghost use Rattle.std.specs.Option.{option_map};
 ghost use Rattle.slack_base.specs.declared.bounds.TheConstants.{TOP};
-ghost use Rattle.mesi_cache.specs.Caches.{read_line, write_line};
+ghost use Rattle.mesi_cache.specs.Caches.{line_in, read_line, write_line};
 ghost use Rattle.mesi_cache.specs.Lines.{may_write};
 ghost use Rattle.mesi_cache.specs.Places.{IsFoundIn};
 ghost use Rattle.timed_core.specs.Accesses.{is_aligned, hits, word_in_line, with_access, hit, missed, looked_up, failed, tried, accessed, held_in};
@@ -50,19 +51,30 @@ impl Hart {
             return Outcome::Rests;
         }
         let line = code.offset(address) / 16;
+        let found = self.cache.find(line);
         self.prepare(line);
         self.touch(line, cycle);
-        self.try_access(access, line, address, cycle)
+        self.try_access(access, line, found, address, cycle)
     }
 
-    /// Looks the line of an access up, but for an SC whose address isn't the reservation, which fails.
+    /// Does an access whose line was found or isn't held, but for an SC whose address isn't the reservation, which fails.
     #[inline(always)]
     #[tactic(auto, unfolding(crate::specs::Accesses::tried))]
-    fn try_access(&mut self, access: Access, line: u32, address: u32, cycle: u64) -> Outcome
+    fn try_access(
+        &mut self,
+        access: Access,
+        line: u32,
+        found: Option<Found>,
+        address: u32,
+        cycle: u64,
+    ) -> Outcome
         requires ready { IsReady self.old.value }
         requires aligned { IsTrue (is_aligned access (address % 4)) }
         requires register { WritesRegister access }
         requires prepared { IsPrepared line (cache_in self.old) }
+        requires held { option_map (λ f. f.held) found ≡ option_map (λ l. l.held) (line_in self.old.value.cache line) }
+        requires line { IfSome found (λ f. f.line ≡ line) }
+        requires found { IfSome found (λ f. IsFoundIn self.old.value.cache f) }
         ensures does { (base : ℕ) → line ≡ line_number base address → DoesAt (λ id. tried access base address 1 id self.old.value) cycle self.old.value self.new.value result }
         ensures saved { self.new.saved ≡ self.old.saved }
         ensures noted { self.new.noted ≡ self.old.noted }
@@ -72,9 +84,9 @@ impl Hart {
                 if self.reservation != Some(address) {
                     return self.fail(rd);
                 }
-                self.look_up(access, line, address, cycle)
+                self.look_up(access, line, found, address, cycle)
             }
-            _ => self.look_up(access, line, address, cycle),
+            _ => self.look_up(access, line, found, address, cycle),
         }
     }
 
@@ -92,16 +104,26 @@ impl Hart {
 
     /// Does an access to its line if the cache holds it so that the access hits, and else asks for the line.
     #[inline(always)]
-    fn look_up(&mut self, access: Access, line: u32, address: u32, cycle: u64) -> Outcome
+    fn look_up(
+        &mut self,
+        access: Access,
+        line: u32,
+        found: Option<Found>,
+        address: u32,
+        cycle: u64,
+    ) -> Outcome
         requires ready { IsReady self.old.value }
         requires aligned { IsTrue (is_aligned access (address % 4)) }
         requires register { WritesRegister access }
         requires prepared { IsPrepared line (cache_in self.old) }
+        requires held { option_map (λ f. f.held) found ≡ option_map (λ l. l.held) (line_in self.old.value.cache line) }
+        requires line { IfSome found (λ f. f.line ≡ line) }
+        requires found { IfSome found (λ f. IsFoundIn self.old.value.cache f) }
         ensures does { (base : ℕ) → line ≡ line_number base address → DoesAt (λ id. looked_up (held_in self.old.value.cache line) access base address 1 id self.old.value) cycle self.old.value self.new.value result }
         ensures saved { self.new.saved ≡ self.old.saved }
         ensures noted { self.new.noted ≡ self.old.noted }
     {
-        let Some(found) = self.cache.find(line) else {
+        let Some(found) = found else {
             return self.miss(access, line);
         };
         if !access.hits(found.held) {

@@ -1,4 +1,5 @@
 use Rattle.std.proofs.Common.{◌≡◌, ◌∙◌, None, Some, ap, sym, subst, rules}
+use Rattle.std.specs.Prelude.{IfSome}
 use Rattle.std.specs.Option.{option_map}
 use Rattle.mesi_cache.specs.Caches.{line_in}
 use Rattle.mesi_cache.specs.Words.{word_of}
@@ -14,7 +15,7 @@ returns-in_default-clause-does c = λ base is number.
     let core = c.args.self.now.value in
     let id = id_at c.args.cycle core number in
     let nothing : None ≡ option_map (λ l. l.held) (line_in core.cache line) =
-    sym (ap (option_map (λ f. f.held)) c.in_default.is) ∙ c.find.ensures.held ∙ ap (λ h. option_map (λ l. l.held) (line_in h.value.cache line)) c.self.view_is in
+    sym (ap (option_map (λ f. f.held)) c.in_default.is) ∙ c.requires.held in
     subst (λ out. Does out id c.miss.new.self.value c.miss.result)
     (sym (misses c.args.access base c.args.address line id core is (line_in core.cache line) nothing)) (c.miss.ensures.does c.args.cycle number)
 
@@ -24,7 +25,7 @@ returns-then-not-hits-clause-does c = λ base is number.
     let core = c.args.self.now.value in
     let id = id_at c.args.cycle core number in
     let found : Some c.in-Some.found.held ≡ option_map (λ l. l.held) (line_in core.cache line) =
-    sym (ap (option_map (λ f. f.held)) c.in-Some.is) ∙ c.find.ensures.held ∙ ap (λ h. option_map (λ l. l.held) (line_in h.value.cache line)) c.self.view_is in
+    sym (ap (option_map (λ f. f.held)) c.in-Some.is) ∙ c.requires.held in
     subst (λ out. Does out id c.miss-then-not-hits.new.self.value c.miss-then-not-hits.result)
     (sym (still_misses c.args.access base c.args.address line id core is (line_in core.cache line) c.in-Some.found.held found (search rules)))
     (c.miss-then-not-hits.ensures.does c.args.cycle number)
@@ -36,8 +37,8 @@ returns-clause-does c = λ base is number.
     let id = id_at c.args.cycle core number in
     let old = c.word-old.result in
     let found : Some c.in-Some.found.held ≡ option_map (λ l. l.held) (line_in core.cache line) =
-    sym (ap (option_map (λ f. f.held)) c.in-Some.is) ∙ c.find.ensures.held ∙ ap (λ h. option_map (λ l. l.held) (line_in h.value.cache line)) c.self.view_is in
-    let same : c.in-Some.found.line ≡ line = c.in-Some.ensures.line in
+    sym (ap (option_map (λ f. f.held)) c.in-Some.is) ∙ c.requires.held in
+    let same : c.in-Some.found.line ≡ line = subst (λ o. IfSome o (λ f. f.line ≡ line)) c.in-Some.is c.requires.line in
     let word : option_map (λ l. word_of l.words (word_in_line c.args.address)) (line_in core.cache line) ≡ Some old =
     sym (ap (λ w. option_map (λ l. word_of l.words w) (line_in c.self.inside.cache.value.cache c.in-Some.found.line)) c.word_in_line.ensures.value
     ∙ ap (λ h. option_map (λ l. word_of l.words (word_in_line c.args.address)) (line_in h.value.cache c.in-Some.found.line)) c.self.view_is
