@@ -1,5 +1,5 @@
 -- What memory holds before the first cycle.
-use Rattle.std.specs.Prelude.{ℕ, ◌+◌, ◌-◌, ◌&&◌, Bool, List, [], ◌∷◌, map, nat_le, nat_lt, slice_index, if◌then◌else◌}
+use Rattle.std.specs.Prelude.{ℕ, ◌+◌, ◌-◌, ◌*◌, ◌/◌, ◌&&◌, max, Bool, List, [], ◌∷◌, ◌++◌, length, map, replicate, nat_le, nat_lt, slice_index, if◌then◌else◌}
 use Rattle.std.specs.List.{range_with_len}
 use Rattle.slack_base.specs.declared.images.Segment.{Segment}
 
@@ -15,3 +15,16 @@ byte_at (s ∷ segments) address = if is_in s address then slice_index s.bytes (
 -- the bytes of so many addresses from base on
 unfoldable pub bytes_from : List Segment → ℕ → ℕ → List ℕ
 bytes_from segments base size = map (λ k. byte_at segments (base + k)) (range_with_len 0 size)
+
+-- how many bytes from base on lie before the end of what the segments give
+abbrev pub reach : List Segment → (base : ℕ) → ℕ
+reach [] base = 0
+reach (s ∷ segments) base = max (s.address + length s.bytes - base) (reach segments base)
+
+-- how many bytes the lines have, 16 each, up to the last one that the segments' bytes reach
+abbrev pub lines_reached : List Segment → (base : ℕ) → ℕ
+lines_reached segments base = 16 * ((reach segments base + 15) / 16)
+
+-- the bytes, and zeros behind them, so many in all
+unfoldable pub with_zeros : List ℕ → (size : ℕ) → List ℕ
+with_zeros bytes size = bytes ++ replicate (size - length bytes) 0

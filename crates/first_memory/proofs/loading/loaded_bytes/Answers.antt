@@ -1,13 +1,14 @@
-use Rattle.std.proofs.Common.{◌≡◌, ◌+◌, ◌∙◌, drop, ap, arith}
-use Rattle.std.proofs.lemmas.List.FromFn.{fill_by_all}
-use Rattle.first_memory.specs.Memory.{byte_at, bytes_from}
+use Rattle.std.proofs.Common.{◌≡◌, ◌+◌, ◌≤◌, ◌<◌, ◌∙◌, ℕ, drop, get_or, length, ap, arith}
+use Rattle.first_memory.specs.Memory.{byte_at, reach}
+use Rattle.first_memory.proofs.Reached.{filled-up}
 use Rattle.first_memory.proofs.loading.loaded_bytes.Goals as goal
 
 pub returns-clause-held : goal.returns-clause-held
-unfolding bytes_from
 returns-clause-held c =
     let segments = c.args.image.now.segments in
     let held = c.loop-left.invariant.held in
-    let none : c.loop-left.left ≡ 0 = omega arith in
-    fill_by_all (λ k. byte_at segments (c.args.base + k)) c.loop-left.bytes.items c.args.memory 0 c.loop-left.invariant.count
-    (λ k lt. held k lt ∙ ap (λ n. byte_at (drop n c.as_slice-segments.result.now) (c.args.base + k)) none ∙ ap (λ xs. byte_at xs (c.args.base + k)) c.as_slice-segments.ensures)
+    let done : c.loop-left.left ≡ 0 = omega arith in
+    let all : (k : ℕ) → k < length c.loop-left.bytes.items → get_or c.loop-left.bytes.items k 0 ≡ byte_at segments (c.args.base + k) =
+    λ k lt. held k (omega (arith, c.loop-left.invariant.count)) ∙ ap (λ n. byte_at (drop n c.as_slice-segments.result.now) (c.args.base + k)) done ∙ ap (λ xs. byte_at xs (c.args.base + k)) c.as_slice-segments.ensures in
+    let far : reach segments c.args.base ≤ length c.loop-left.bytes.items = omega (arith, c.loop-left.invariant.count, c.lines_reached-count.ensures.count) in
+    filled-up segments c.args.base c.args.memory c.loop-left.bytes.items (omega (arith, c.loop-left.invariant.count, c.lines_reached-count.ensures.within)) far all
