@@ -1,5 +1,5 @@
 -- The instruction memory: what fetches read.
-use Rattle.std.specs.Prelude.{ℕ, ◌≡◌, ◌+◌, ◌-◌, ◌*◌, ◌%◌, ◌<◌, ◌≤◌, ◌==◌, ◌&&◌, Bool, List, Option, Some, None, IfSome, drop, length, nat_le, nat_lt, option_and_then, slice_index_or, if◌then◌else◌}
+use Rattle.std.specs.Prelude.{ℕ, ◌≡◌, ◌+◌, ◌-◌, ◌*◌, ◌%◌, ◌^◌, ◌<◌, ◌≤◌, ◌==◌, ◌&&◌, Bool, List, Option, Some, None, IfSome, drop, length, nat_le, nat_lt, option_and_then, slice_index_or, if◌then◌else◌}
 use Rattle.byteorder.specs.Endian.{little_number}
 use Rattle.first_memory.specs.Memory.{bytes_from}
 use Rattle.slack_base.specs.declared.images.Image.{Image}
@@ -34,6 +34,15 @@ pub record AreDecoded (bytes : List ℕ) (kept : List Kept) : Type 0 where
   pub within : 4 * length kept ≤ length bytes
   pub each : (n : ℕ) → n < length kept → instr_in (slice_index_or kept n Nothing) ≡ instr_of (little_number 4 (drop (4 * n) bytes))
   pub ranges : (n : ℕ) → n < length kept → IfSome (instr_in (slice_index_or kept n Nothing)) IsInRange
+
+-- the words of these bytes are kept, and memory has zeros behind them
+pub record IsCode (base memory : ℕ) (bytes : List ℕ) (kept : List Kept) : Type 0 where
+  pub base_aligned : base % 4 ≡ 0
+  pub memory_aligned : memory % 4 ≡ 0
+  pub room : base + memory ≤ 2 ^ 32
+  pub within : length bytes ≤ memory
+  pub whole : 4 * length kept ≡ length bytes
+  pub decoded : AreDecoded bytes kept
 
 -- the instruction memory of an image: so many bytes from base on
 abbrev pub code_of : Image → RawConfig → CodeValue

@@ -65,3 +65,8 @@ instr_in (kept.Amo op rd rs1 rs2 aq rl) = Some (Amo op rd rs1 rs2 aq rl)
 instr_in (kept.Fence word) = Some (Fence word)
 instr_in kept.Ecall = Some Ecall
 instr_in kept.Ebreak = Some Ebreak
+
+-- the instruction of what is kept, if anything is
+abbrev pub instr_of_kept : Option Kept → Option Instr
+instr_of_kept None = None
+instr_of_kept (Some kept) = instr_in kept

@@ -5,38 +5,41 @@ mod decoded;
 
 use crate::kept::Kept;
 use byteorder::{ByteOrder, LittleEndian};
-use decoded::{decoded, words_reached};
+use decoded::decoded;
 use first_memory::loaded_bytes;
-use rv_decode::decode;
-use slack_base::{Config, Image, Instr, OutOfMemory};
+use slack_base::{Config, Image, OutOfMemory};
 use std::alloc::Global;
 use std::marker::Model;
 
-/// The bytes of memory as they were loaded, and beside them the instructions of the words that the image's bytes reach.
+/// The bytes of memory as they were loaded, as far as the image reaches, and beside them the instructions of their words.
+/// Behind them memory has zeros, which stand for no instruction. A contract sees all bytes of memory.
 #[derive(Drop)]
 pub struct Code {
     base: u32,
+    memory: u32,
     bytes: Vec<u8>,
     kept: Vec<Kept>,
 }
 
 impl Model for Code {
-    ghost use Rattle.std.specs.Prelude.{◌≡◌, ◌+◌, ◌%◌, ◌^◌, ◌≤◌, vec_len};
-    ghost use Rattle.timed_core.specs.Code.{CodeValue, AreDecoded};
+    ghost use Rattle.first_memory.specs.Memory.{with_zeros};
+    ghost use Rattle.timed_core.specs.Code.{CodeValue, IsCode};
 
     ghost Value = { CodeValue };
 
-    ghost view = { λ c. record { base = c.base; bytes = c.bytes.items } };
+    ghost view = { λ c. record { base = c.base; bytes = with_zeros c.bytes.items c.memory } };
 
-    ghost invariant = { λ c. (c.base % 4 ≡ 0) × (vec_len c.bytes % 4 ≡ 0) × (c.base + vec_len c.bytes ≤ 2 ^ 32) × AreDecoded c.bytes.items c.kept.items };
+    ghost invariant = { λ c. IsCode c.base c.memory c.bytes.items c.kept.items };
 }
 
 impl Code {
-    ghost use Rattle.std.specs.Prelude.{◌≡◌, ◌-◌, IfOk, IfSome, IsTrue};
+    ghost use Rattle.std.specs.Prelude.{◌≡◌, ◌-◌, ◌%◌, drop, IfOk, IfSome, IsTrue};
+    ghost use Rattle.byteorder.specs.Endian.{little_number};
+    ghost use Rattle.std.specs.Option.{option_map};
     ghost use Rattle.slack_base.specs.Images.{Fits};
     ghost use Rattle.slack_base.specs.Numbers.{numbers_of};
     ghost use Rattle.timed_core.specs.Code.{word_at, instr_at, is_in_memory, code_of};
-    ghost use Rattle.timed_core.specs.Kept.{instr_in};
+    ghost use Rattle.timed_core.specs.Kept.{instr_of_kept};
     ghost use Rattle.rv_decode.specs.Ranges.{IsInRange};
 
     /// The instruction memory of an image that fits the configuration.
@@ -45,10 +48,10 @@ impl Code {
         ensures { IfOk result (λ code. code ≡ code_of image.now (numbers_of config.now)) }
     {
         let bytes = loaded_bytes(alloc, image, config.base, config.memory)?;
-        let count = words_reached(image, config.base, config.memory);
-        let kept = decoded(alloc, bytes.as_slice(), count)?;
+        let kept = decoded(alloc, bytes.as_slice())?;
         Ok(Code {
             base: config.base,
+            memory: config.memory,
             bytes,
             kept,
         })
@@ -67,7 +70,7 @@ impl Code {
     pub fn is_in_memory(&self, address: u32) -> bool
         ensures { result ≡ is_in_memory self.now address }
     {
-        (address.wrapping_sub(self.base) as usize) < self.bytes.len()
+        address.wrapping_sub(self.base) < self.memory
     }
 
     /// The little-endian word at an address: none outside memory, and none off a multiple of 4.
@@ -78,46 +81,37 @@ impl Code {
         if address < self.base || address % 4 != 0 {
             return None;
         }
-        let offset = (address - self.base) as usize;
-        if offset >= self.bytes.len() {
+        let offset = address - self.base;
+        if offset >= self.memory {
             return None;
         }
-        Some(LittleEndian::read_u32(&self.bytes[offset..]))
+        Some(self.word_behind(offset as usize))
     }
 
-    /// The instruction at an address: none where there is no word, and where the word stands for none. It is decoded.
-    #[cold]
-    pub fn instr(&self, address: u32) -> Option<Instr>
-        ensures value { result ≡ instr_at self.now address }
-        ensures ranges { IfSome result IsInRange }
+    /// The little-endian word so many bytes behind the beginning of memory.
+    fn word_behind(&self, offset: usize) -> u32
+        requires aligned { offset % 4 ≡ 0 }
+        ensures { result ≡ little_number 4 (drop offset self.now.bytes) }
     {
-        decode(self.word(address)?)
+        if offset >= self.bytes.len() {
+            return 0;
+        }
+        LittleEndian::read_u32(&self.bytes[offset..])
     }
 
-    /// The instruction at an address, as it is kept; or in this room, where its word isn't among those that are kept.
+    /// What is kept of the word at an address: none off a multiple of 4, and where memory has no word or a zero that the
+    /// image doesn't reach. Nothing but what is kept is an instruction.
     #[inline(always)]
-    #[tactic(auto, using(crate::proofs::Reaching::kept_at))]
-    pub fn kept<'a>(&'a self, address: u32, room: &'a mut Kept) -> &'a Kept
-        ensures value { instr_in result.now ≡ instr_at self.now address }
-        ensures ranges { IfSome (instr_in result.now) IsInRange }
+    pub fn kept(&self, address: u32) -> Option<&Kept>
+        ensures value { instr_of_kept (option_map (λ k. k.now) result) ≡ instr_at self.now address }
+        ensures ranges { IfSome (instr_of_kept (option_map (λ k. k.now) result)) IsInRange }
     {
         let offset = address.wrapping_sub(self.base);
         let number = (offset / 4) as usize;
         if offset % 4 == 0 && number < self.kept.len() {
-            return &self.kept[number];
+            return Some(&self.kept[number]);
         }
-        self.decode_into(address, room);
-        room
-    }
-
-    /// Puts the instruction at an address, decoded of its word, into this room.
-    #[cold]
-    #[inline(never)]
-    fn decode_into(&self, address: u32, room: &mut Kept)
-        ensures value { instr_in room.new ≡ instr_at self.now address }
-        ensures ranges { IfSome (instr_in room.new) IsInRange }
-    {
-        *room = Kept::of(self.instr(address));
+        None
     }
 
     /// How many bytes lie between the beginning of memory and an address of memory.

@@ -7,7 +7,6 @@ ghost use Rattle.timed_core.specs.Ticks.{fetched};
 
 use crate::code::Code;
 use crate::harts::Hart;
-use crate::kept::Kept;
 use crate::outcomes::Outcome;
 use slack_base::Trap;
 
@@ -21,11 +20,11 @@ impl Hart {
         ensures saved { self.new.saved ≡ self.old.saved }
         ensures noted { length self.new.noted ≤ length self.old.noted + 1 }
     {
-        let mut room = Kept::Nothing;
-        let kept = code.kept(self.pc, &mut room);
+        let Some(kept) = code.kept(self.pc) else {
+            return self.refuse(code, cycle);
+        };
         if kept.is_nothing() {
-            self.refuse(code, cycle);
-            return Outcome::Rests;
+            return self.refuse(code, cycle);
         }
         self.execute(code, kept, cycle)
     }
@@ -34,10 +33,10 @@ impl Hart {
     #[cold]
     #[inline(never)]
     #[tactic(auto, unfolding(crate::specs::Ticks::fetched, crate::specs::Ticks::decoded))]
-    fn refuse(&mut self, code: &Code, cycle: u64)
+    fn refuse(&mut self, code: &Code, cycle: u64) -> Outcome
         requires top { cycle ≤ TOP }
         requires none { instr_at code.now self.old.value.pc ≡ None }
-        ensures does { DoesAt (λ id. fetched code.now (word_at code.now self.old.value.pc) id self.old.value) cycle self.old.value self.new.value Outcome.Rests }
+        ensures does { DoesAt (λ id. fetched code.now (word_at code.now self.old.value.pc) id self.old.value) cycle self.old.value self.new.value result }
         ensures saved { self.new.saved ≡ self.old.saved }
         ensures noted { self.new.noted ≡ self.old.noted }
     {
@@ -46,5 +45,6 @@ impl Hart {
             None => Trap::Fetch { pc: self.pc },
         };
         self.trap(cycle, trap);
+        Outcome::Rests
     }
 }

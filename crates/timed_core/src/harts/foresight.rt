@@ -140,9 +140,10 @@ impl Hart {
         ensures next { at.new ≡ (course_of code.now self.now.value at.old (instr_at code.now at.old.address)).1 }
         ensures short { cycles_by result 0 ≤ 16 }
     {
-        let mut room = Kept::Nothing;
-        let kept = code.kept(at.address, &mut room);
-        self.course(code, kept, at)
+        match code.kept(at.address) {
+            Some(kept) => self.course(code, kept, at),
+            None => Course::MayAsk,
+        }
     }
 
     /// What is known of an instruction that is kept; the next one is ahead then.
