@@ -1,5 +1,5 @@
 -- A bus before the first cycle.
-use Rattle.std.proofs.Common.{◌≡◌, ◌∙◌, ℕ, ◌+◌, ◌*◌, ◌/◌, ◌<◌, ◌≤◌, List, [], get_or, refl, ap, arith}
+use Rattle.std.proofs.Common.{◌≡◌, ℕ, ◌+◌, ◌*◌, ◌/◌, ◌<◌, ◌≤◌, List, [], get_or, refl, ap, arith}
 use Rattle.std.specs.List.{range_with_len}
 use Rattle.std.proofs.Math.Nat.{mul-le-mul_left}
 use Rattle.std.proofs.lemmas.List.FromFn.{length-map-range_with_len}
@@ -7,7 +7,7 @@ use Rattle.std.proofs.lemmas.List.Elements.{All-map}
 use Rattle.slack_base.specs.declared.configs.RawConfig.{RawConfig}
 use Rattle.slack_base.specs.declared.images.Image.{Image}
 use Rattle.slack_base.specs.LittleEndian.{words_at}
-use Rattle.first_memory.specs.Memory.{bytes_from}
+use Rattle.first_memory.specs.Memory.{bytes_from, with_zeros}
 use Rattle.status_map.specs.declared.views.EntryView.{EntryView}
 use Rattle.status_map.specs.Entries.{NamesBelow}
 use Rattle.slot_calendar.specs.declared.slots.Slot.{Slot}
@@ -24,12 +24,10 @@ line-inside memory buses index place low within =
     let m = mul-le-mul_left buses h in
     omega (arith, m)
 
-pub entry-is : (config : RawConfig) (image : Image) (bytes : List ℕ) (line : ℕ) → bytes ≡ bytes_from image.segments config.base config.memory → 16 * line + 16 ≤ config.memory
+pub entry-is : (config : RawConfig) (image : Image) (bytes : List ℕ) (line : ℕ) → with_zeros bytes config.memory ≡ bytes_from image.segments config.base config.memory → 16 * line + 16 ≤ config.memory
     → idle (words_at (λ j. get_or bytes j 0) (16 * line)) ≡ first_entry config image line
 unfolding first_entry
-entry-is config image bytes line same within =
-    ap (λ (xs : List ℕ). idle (words_at (λ j. get_or xs j 0) (16 * line))) same
-    ∙ ap idle (words-at image.segments config.base config.memory (16 * line) (config.base + 16 * line) within refl)
+entry-is config image bytes line held within = ap idle (words-at image.segments config.base config.memory bytes held (16 * line) (config.base + 16 * line) within refl)
 
 pub first-sound : (config : RawConfig) (image : Image) (number : ℕ) → number < config.buses → IsSoundBus (first_bus config image number)
 unfolding first_bus first_entry
