@@ -32,8 +32,8 @@ below_from_holds n cores k few member = elim (cases_lt k n) [
 ]
 
 -- the number of a core as a set, as it is computed
-pub shifted : (core : ℕ) → core < MOST_CORES → 1 * 2 ^ core % 4294967296 ≡ 2 ^ core
+pub shifted : (core : ℕ) → core < MOST_CORES → 1 * 2 ^ core % 65536 ≡ 2 ^ core
 shifted core low =
-    let small : 2 ^ core < 2 ^ 32 = pow-lt {i = core} {j = 32} (omega arith) in
+    let small : 2 ^ core < 2 ^ 16 = pow-lt {i = core} {j = 16} (omega arith) in
     let one : 1 * 2 ^ core ≡ 2 ^ core = omega arith in
     rw one (mod-eq_of_lt (omega (arith, small)))

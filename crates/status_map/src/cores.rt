@@ -4,7 +4,7 @@ ghost use Rattle.slack_base.specs.declared.bounds.TheConstants.{MOST_CORES};
 ghost use Rattle.status_map.specs.Cores.{holds, is_other, with_core};
 
 /// Whether a core is in a set.
-pub fn holds(cores: u32, core: u32) -> bool
+pub fn holds(cores: u16, core: u32) -> bool
     requires { core < MOST_CORES }
     ensures { result ≡ holds cores core }
 {
@@ -12,7 +12,7 @@ pub fn holds(cores: u32, core: u32) -> bool
 }
 
 /// Whether a core is in a set and isn't the one that asks.
-pub fn is_other(cores: u32, asking: u32, core: u32) -> bool
+pub fn is_other(cores: u16, asking: u32, core: u32) -> bool
     requires { core < MOST_CORES }
     ensures { result ≡ is_other cores asking core }
 {
@@ -20,7 +20,7 @@ pub fn is_other(cores: u32, asking: u32, core: u32) -> bool
 }
 
 /// The set with one more core.
-pub fn with_core(cores: u32, core: u32) -> u32
+pub fn with_core(cores: u16, core: u32) -> u16
     requires core { core < MOST_CORES }
     requires cores { cores < 2 ^ MOST_CORES }
     ensures set { result ≡ with_core cores core }

@@ -19,6 +19,9 @@ pub struct Entry {
     view: EntryView,
 }
 
+// A bus keeps an entry for each line of memory, and the start of a run touches them all.
+const _: () = prove!(size_of::<Entry>() == 32);
+
 impl Model for Entry {
     ghost use Rattle.slack_base.specs.declared.bounds.TheConstants.{MOST_CORES};
     ghost use Rattle.status_map.specs.declared.views.EntryView.{EntryView};
@@ -59,7 +62,7 @@ impl Granted {
     }
 
     /// Invalidates the line in each core of a set but the one that asks, in the order of the cores.
-    fn invalidate(&self, cores: u32, delay: u64, out: &mut PostBatch)
+    fn invalidate(&self, cores: u16, delay: u64, out: &mut PostBatch)
         requires core { self.now.id.core < MOST_CORES }
         requires grant { self.now.grant ≤ TOP }
         requires delay { delay ≤ 64 }
@@ -169,17 +172,17 @@ impl Entry {
             EntryKind::Owned { .. } if grant < settled => {
                 asked.send(core, delays.snoop, PostKind::Retry, out);
             }
-            EntryKind::Owned { core: owner } if owner != core => {
-                asked.send(owner, delays.snoop, PostKind::SnoopShare, out);
+            EntryKind::Owned { core: owner } if u32::from(owner) != core => {
+                asked.send(u32::from(owner), delays.snoop, PostKind::SnoopShare, out);
                 let moving = EntryKind::Moving {
                     owner,
-                    requester: core,
+                    requester: core as u8,
                     exclusive: false,
                 };
                 self.set(moving, words);
             }
             EntryKind::Idle | EntryKind::Owned { .. } => {
-                self.set(EntryKind::Owned { core }, words);
+                self.set(EntryKind::Owned { core: core as u8 }, words);
                 self.reply(&asked, core, delays.memory, true, out);
             }
             EntryKind::Shared { cores } => {
@@ -213,22 +216,22 @@ impl Entry {
         }
         match kind {
             EntryKind::Moving { .. } => asked.send(core, delays.snoop, PostKind::Retry, out),
-            EntryKind::Owned { core: owner } if owner != core => {
-                asked.send(owner, delays.snoop, PostKind::SnoopOwn, out);
+            EntryKind::Owned { core: owner } if u32::from(owner) != core => {
+                asked.send(u32::from(owner), delays.snoop, PostKind::SnoopOwn, out);
                 let moving = EntryKind::Moving {
                     owner,
-                    requester: core,
+                    requester: core as u8,
                     exclusive: true,
                 };
                 self.set(moving, words);
             }
             EntryKind::Idle | EntryKind::Owned { .. } => {
-                self.set(EntryKind::Owned { core }, words);
+                self.set(EntryKind::Owned { core: core as u8 }, words);
                 self.reply(&asked, core, delays.memory, true, out);
             }
             EntryKind::Shared { cores } => {
                 asked.invalidate(cores, delays.snoop, out);
-                self.set(EntryKind::Owned { core }, words);
+                self.set(EntryKind::Owned { core: core as u8 }, words);
                 self.reply(&asked, core, delays.memory, true, out);
             }
         }
@@ -240,6 +243,7 @@ impl Entry {
         requires { core < MOST_CORES }
         ensures { WritesBack core words self.old self.new }
     {
+        let core = core as u8;
         match self.view().kind {
             EntryKind::Owned { core: owner } if owner == core => self.set(EntryKind::Idle, words),
             EntryKind::Moving {
@@ -287,24 +291,25 @@ impl Entry {
         else {
             return;
         };
-        if owner != core {
+        if u32::from(owner) != core {
             return;
         }
+        let receiver = u32::from(requester);
         match words {
             _ if exclusive => {
                 let memory = words.unwrap_or(old.words);
                 self.set(EntryKind::Owned { core: requester }, memory);
             }
             Some(flushed) => {
-                let cores = with_core(with_core(0, core), requester);
+                let cores = with_core(with_core(0, core), receiver);
                 self.set(EntryKind::Shared { cores }, flushed);
             }
             None => {
-                let cores = with_core(0, requester);
+                let cores = with_core(0, receiver);
                 self.set(EntryKind::Shared { cores }, old.words);
             }
         }
-        self.reply(&asked, requester, delays.transfer, exclusive, out);
+        self.reply(&asked, receiver, delays.transfer, exclusive, out);
     }
 }
 

@@ -10,16 +10,16 @@ pub enum EntryKind {
     Idle,
     /// These cores, to read it: bit `c` stands for core `c`.
     Shared {
-        cores: u32,
+        cores: u16,
     },
     /// This core alone, to read and to write it. It was promised the line, and may have dropped it since.
     Owned {
-        core: u32,
+        core: u8,
     },
     /// Its owner was told to give it up to a core that asked for it, to be owned there (`exclusive`) or shared.
     Moving {
-        owner: u32,
-        requester: u32,
+        owner: u8,
+        requester: u8,
         exclusive: bool,
     },
 }

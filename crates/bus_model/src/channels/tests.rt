@@ -352,7 +352,7 @@ fn lines_of_one_bus(rt: HostRuntime) -> Result<(), Fail> {
 }
 
 /// The entry of a line of zeros that a core owns.
-fn owned(core: u32, settled: u64) -> EntryView {
+fn owned(core: u8, settled: u64) -> EntryView {
     EntryView {
         kind: EntryKind::Owned { core },
         settled,
