@@ -2,6 +2,10 @@
 #![tactic(auto)]
 
 #[cfg(test)]
+mod assembled;
+#[cfg(test)]
+mod command_lines;
+#[cfg(test)]
 mod elf_images;
 #[cfg(test)]
 mod files;
@@ -14,4 +18,14 @@ mod image_fronts;
 #[cfg(test)]
 mod images;
 #[cfg(test)]
+mod order_faults;
+#[cfg(test)]
+mod order_options;
+#[cfg(test)]
+mod orders;
+#[cfg(test)]
 mod packed_images;
+#[cfg(test)]
+mod recorders;
+#[cfg(test)]
+mod streams;
