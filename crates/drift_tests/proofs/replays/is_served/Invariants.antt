@@ -2,7 +2,7 @@ use Rattle.std.proofs.Common.{◌≡◌, Some}
 use Rattle.slack_base.specs.Numbers.{numbers_of}
 use Rattle.bus_model.specs.Channels.{bus_setting}
 use Rattle.bus_model.specs.Settings.{setting_of}
-use Rattle.drift_tests.proofs.replays.check_bus.Given as goal
+use Rattle.drift_tests.proofs.replays.is_served.Given as goal
 
 -- the bus has the setting of its number
 abbrev pub invariant-loop-ask : goal.invariant-loop-ask
