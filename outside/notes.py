@@ -46,10 +46,13 @@ class Notes(NamedTuple):
 
 def status_of(report):
     """The exit status that a report in text has."""
+    cores = re.search(rb"^cores (\d+)$", report, re.M)
+    if not cores:
+        raise Wrong(f"no report: {report!r}")
     if re.search(rb"^core \d+ running ", report, re.M):
         return Status.LIMIT
     exits = len(re.findall(rb"^core \d+ exit 0 at ", report, re.M))
-    return Status.DONE if exits == int(re.match(rb"cores (\d+)\n", report)[1]) else Status.OTHER_END
+    return Status.DONE if exits == int(cores[1]) else Status.OTHER_END
 
 
 def checkpoint(report, setting):
