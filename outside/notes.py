@@ -45,10 +45,10 @@ class Notes(NamedTuple):
 
 
 def status_of(report):
-    """The exit status that a report in text has."""
+    """The exit status that a report in text has; none where it is no report."""
     cores = re.search(rb"^cores (\d+)$", report, re.M)
     if not cores:
-        raise Wrong(f"no report: {report!r}")
+        return None
     if re.search(rb"^core \d+ running ", report, re.M):
         return Status.LIMIT
     exits = len(re.findall(rb"^core \d+ exit 0 at ", report, re.M))

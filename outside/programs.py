@@ -58,7 +58,7 @@ def some_branch(rng):
 
 def service(rng):
     """A call of a service, mostly that of the console, sometimes with another byte than the core's number."""
-    number = rng.choice([PUT] * 9 + [EXIT])
+    number = rng.choice([PUT] * 19 + [EXIT])
     argument = [add_immediate(10, rng.choice(REGISTERS), rng.randrange(-2048, 2048))] if rng.randrange(2) else []
     return [*argument, add_immediate(17, 0, number), ECALL]
 
@@ -78,7 +78,7 @@ ENDS = [
 
 def fragment(rng):
     """One instruction, or a few that belong together."""
-    kind = rng.randrange(200)
+    kind = rng.randrange(216)
     if kind < 54:
         return [registers_word(rng, rng.choice([0, 0, 1, 1]), rng.randrange(8))]
     if kind < 74:
@@ -96,9 +96,9 @@ def fragment(rng):
         return [atomic_word(rng, rng.choice([1, 0, 4, 12, 8, 16, 20, 24, 28]), rng.choice(REGISTERS))]
     if kind < 186:
         return [some_branch(rng)]
-    if kind < 194:
+    if kind < 210:
         return service(rng)
-    if kind < 198:
+    if kind < 214:
         return [rng.choice([FENCE, registers_word(rng, 0x20, rng.choice([0, 5]))])]
     return rng.choice(ENDS)(rng)
 
