@@ -3,8 +3,8 @@
 
     python3 outside/devices.py
 
-A full disk, streams that are closed, a reader that left, a folder as input, a pipe with nothing in it and input without an end
-must each be answered by the status and the line that the README says. Then the system refuses threads: all, those from the third
+A full disk, streams that are closed, a reader that left, a folder as input, a pipe with nothing in it, input without an end and
+a system that has no memory must each be answered by the status and the line that the README says. Then the system refuses threads: all, those from the third
 on, the second, each third. In speculative mode report and status must be those of a run cycle by cycle all the same, and in
 bounded mode the notes must add up. The second part needs a C compiler, and fails where no thread was refused.
 """
@@ -17,7 +17,7 @@ import tempfile
 from typing import NamedTuple
 
 import notes as noted
-from program import EXAMPLES, READ_FAULT, Status, TOO_LONG, WRITE_FAULT, Wrong, call, example, library, script
+from program import EXAMPLES, NO_MEMORY, READ_FAULT, Status, TOO_LONG, WRITE_FAULT, Wrong, call, example, library, script
 
 # The report of examples/exit.s, which MACHINE.md's rules give: three instructions in three cycles, and the last of them exits.
 EXIT = b"""\
@@ -77,6 +77,8 @@ CASES = [
     # The zeros behind the image are passed over.
     Case("input in a long pipe", '{ cat; head -c 9000000 /dev/zero; } | "$@"', RUN, Status.DONE, EXIT),
     Case("input that is too long for a pipe", 'head -c 20000000 /dev/zero | "$@"', RUN, Status.INPUT, err=TOO_LONG),
+    # Memory alone has 16 MB.
+    Case("10 MB of addresses", "ulimit -v 10000; " + SHELL, (*RUN, "--memory", "16777216"), Status.MEMORY, err=NO_MEMORY),
     # The image has 80,000 bytes, more than a pipe holds.
     Case("a reader that leaves", 'yes nop | head -n 20000 | "$@" | head -c 1 >/dev/null; exit ${PIPESTATUS[2]}', ASM, Status.WRITE, err=WRITE_FAULT),
 ]

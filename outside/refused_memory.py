@@ -36,7 +36,7 @@ class Call(NamedTuple):
     program: str = PROGRAM
 
     def __str__(self):
-        return " ".join(self.words)
+        return f"{' '.join(self.words)} < {len(self.data)} bytes"
 
 
 def small_calls():

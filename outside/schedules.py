@@ -18,6 +18,7 @@ where a mode was never met, no interval was rolled back or nothing was recorded 
 import collections
 import concurrent.futures
 import contextlib
+import itertools
 import os
 import random
 import shutil
@@ -131,11 +132,15 @@ def results(seed, numbers, tools, at_once):
     """What comes of the runs of these numbers; so many run at once."""
     chosen, exact, numbers = programs(), Exact(), iter(numbers)
     with concurrent.futures.ThreadPoolExecutor(at_once) as pool:
-        start = lambda number: pool.submit(notes_of, random_run(seed, number, chosen, tools), exact)
-        waiting = {start(number) for number, _ in zip(numbers, range(at_once))}
+
+        def started(count):
+            runs = (random_run(seed, number, chosen, tools) for number in itertools.islice(numbers, count))
+            return {pool.submit(notes_of, run, exact) for run in runs}
+
+        waiting = started(at_once)
         while waiting:
             done, waiting = concurrent.futures.wait(waiting, return_when=concurrent.futures.FIRST_COMPLETED)
-            waiting |= {start(number) for number, _ in zip(numbers, done)}
+            waiting |= started(len(done))
             yield from (it.result() for it in done)
 
 
