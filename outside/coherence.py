@@ -1,5 +1,6 @@
 #!/usr/bin/env python3
-"""Asks for broken lines (`--check on`) at the end of the examples and of generated programs, in each mode.
+"""Asks the program, as it was last built, for broken lines (`--check on`) at the end of the examples and of generated programs,
+in each mode.
 
     python3 outside/coherence.py [SEEDS]
 
@@ -8,30 +9,19 @@ one says. compare.py beside this file compares them with the model's.
 """
 
 import itertools
-import pathlib
-import subprocess
 import sys
 
-TOP = pathlib.Path(__file__).resolve().parent.parent
-IMAGES = sorted([*TOP.glob("examples/*.slk1"), *TOP.glob("examples/*.elf"), *TOP.glob("examples/c/*.elf")])
-TEXTS = sorted([*TOP.glob("examples/*.s"), *TOP.glob("examples/studies/*.s")])
+from program import EXAMPLES, argument, call, example, script
+
+NAMES = [path.relative_to(EXAMPLES) for pattern in ("*.slk1", "*.elf", "c/*.elf", "*.s", "studies/*.s") for path in sorted(EXAMPLES.glob(pattern))]
 EXACT = [["lockstep"], ["quantum"], *(["speculative", "--slack", str(slack)] for slack in (1, 8, 64, 1000))]
 LOOSE = [["quantum", "--quantum", "64"], *(["bounded", "--slack", str(slack)] for slack in (1, 8, 64, 1000)), ["script", "--steps", "t0x400"]]
 ENDS = [["--limit", "20000"], ["--limit", "150", "--interval", "50"], ["--limit", "60", "--interval", "60", "--sets", "1", "--ways", "1"]]
 
 
-def call(words, data=b""):
-    return subprocess.run([TOP / "slacksim", *words], input=data, capture_output=True, check=False).stdout
-
-
-def images():
-    yield from (path.read_bytes() for path in IMAGES)
-    yield from (call(["asm"], path.read_bytes()) for path in TEXTS)
-
-
 def programs(seeds):
     """The words before the mode, and the input."""
-    yield from ((["run", "--cores", cores], image) for image in images() for cores in ("1", "2", "5", "16"))
+    yield from ((["run", "--cores", cores], image) for image in map(example, map(str, NAMES)) for cores in ("1", "2", "5", "16"))
     yield from ((["gen", "--seed", str(seed), "--cores", cores], b"") for seed in range(seeds) for cores in ("2", "7"))
 
 
@@ -43,12 +33,12 @@ def broken(text):
 
 
 def main():
-    seeds = int(sys.argv[1]) if len(sys.argv) > 1 else 20
+    seeds = argument(1, 20)
     runs = wrong = with_broken = 0
     for (words, data), end, mode in itertools.product(programs(seeds), ENDS, EXACT + LOOSE):
         if words[0] == "gen" and mode[0] == "script":
             continue
-        count = broken(call([*words, *end, "--check", "on", "--mode", *mode], data))
+        count = broken(call([*words, *end, "--check", "on", "--mode", *mode], data).out)
         runs += 1
         with_broken += bool(count)
         if count is None or count > 0 and mode in EXACT:
@@ -59,4 +49,4 @@ def main():
 
 
 if __name__ == "__main__":
-    main()
+    script(main)

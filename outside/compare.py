@@ -1,104 +1,61 @@
 #!/usr/bin/env python3
-"""Compares the program with the model beside this file, over random programs and configurations.
+"""Compares the program, as it was last built, with the model beside this file, over random programs and configurations.
 
     python3 outside/compare.py [HOW MANY] [SEED]
 
-It is a test of the definitions that are proved of the program, by an outside reading of the rules. Beside that, where nothing is
-recorded of a drift, the model itself must end as it does cycle by cycle.
+It is a test of the definitions that are proved of the program, by an outside reading of the rules. Reports, dumps and exit
+statuses are compared, cycle by cycle and in speculative mode, and with the notes in given interleavings and in pieces. Of drifts
+by threads, which differ from run to run, the notes must add up to the intervals that the model has; where they record nothing
+the end must be the one cycle by cycle, as of the model itself. It fails where a kind of end, a byte on the console or a kind of
+record never came.
 """
 
-import pathlib
+import collections
 import random
-import struct
-import subprocess
 import sys
+from typing import NamedTuple
 
+import notes as noted
 from drifts import quantum, script
-from model import DEFAULTS, Machine
+from model import Machine
+from program import Wrong, argument, call, script as run_script
+from programs import flat, random_code, random_config
 
-PROGRAM = pathlib.Path(__file__).resolve().parent.parent / "slacksim"
-REGISTERS = [0, 1, 5, 6, 7, 9, 10, 11]
-OFFSETS = [0, 1, 2, 4, 8, 12, 16, 20, 32, 48, 64, 80, -4, -16]
-
-
-def registers_word(rng, funct7, funct3, opcode=0x33):
-    rs2, rs1, rd = (rng.choice(REGISTERS) for _ in range(3))
-    return funct7 << 25 | rs2 << 20 | rs1 << 15 | funct3 << 12 | rd << 7 | opcode
-
-
-def immediate_word(rng, opcode, funct3, rs1):
-    return (rng.choice(OFFSETS) & 0xFFF) << 20 | rs1 << 15 | funct3 << 12 | rng.choice(REGISTERS) << 7 | opcode
+TRAPS = ("illegal", "fetch", "target", "misaligned", "outside", "break", "call")
+ENDS = ("running", "exit 0", "exit not 0", *(f"trap {name}" for name in TRAPS))
+TO_SEE = (*ENDS, "byte on the console", *noted.KINDS, "clash on the console", "interval kept", "interval rolled", "interval bounded")
+CHECKED = b"coherence 0\n"
+# What is no slack: an interleaving that is given has none.
+ANY = 10**9
 
 
-def store_word(rng):
-    offset = rng.choice(OFFSETS) & 0xFFF
-    kind = rng.choice([0, 1, 2, 2, 2])
-    return (offset >> 5) << 25 | rng.choice(REGISTERS) << 20 | 8 << 15 | kind << 12 | (offset & 31) << 7 | 0x23
+class Trial(NamedTuple):
+    """A program and what it runs on."""
 
+    config: dict
+    code: bytes
 
-def atomic_word(rng, funct5, rs2):
-    return funct5 << 27 | rs2 << 20 | rng.choice([8, 8, 4]) << 15 | 2 << 12 | rng.choice(REGISTERS) << 7 | 0x2F
+    def machine(self):
+        base = self.config["base"]
+        return Machine(self.config, base, [(base, self.code)])
 
+    def with_config(self, **more):
+        return self._replace(config={**self.config, **more})
 
-def branch_word(rng):
-    offset = rng.choice([8, 8, 12, 16, -8, -16])
-    kind = rng.choice([0, 1, 4, 5, 6, 7])
-    upper = (offset >> 12 & 1) << 31 | (offset >> 5 & 63) << 25
-    lower = (offset >> 1 & 15) << 8 | (offset >> 11 & 1) << 7
-    return upper | rng.choice(REGISTERS) << 20 | rng.choice(REGISTERS) << 15 | kind << 12 | lower | 0x63
+    def call(self, *words):
+        options = [word for name, value in self.config.items() for word in (f"--{name}", str(value))]
+        return call(["run", *options, *words], flat(self.config["base"], self.code))
 
+    def setting(self, mode, slack):
+        config = self.config
+        lookahead = min(config["snoop"], config["transfer"])
+        return noted.Setting(mode, config["cores"], slack, config["interval"], config["limit"], lookahead)
 
-def random_word(rng):
-    """An instruction, mostly: x8 and x4 hold addresses."""
-    kind = rng.randrange(100)
-    if kind < 28:
-        return registers_word(rng, rng.choice([0, 0, 1, 1]), rng.randrange(8))
-    if kind < 38:
-        return immediate_word(rng, 0x13, rng.choice([0, 2, 3, 4, 6, 7]), rng.choice(REGISTERS))
-    if kind < 60:
-        return immediate_word(rng, 0x03, rng.choice([0, 1, 2, 2, 2, 4, 5]), 8)
-    if kind < 75:
-        return store_word(rng)
-    if kind < 80:
-        return atomic_word(rng, 2, 0)
-    if kind < 85:
-        return atomic_word(rng, 3, rng.choice(REGISTERS))
-    if kind < 92:
-        return atomic_word(rng, rng.choice([1, 0, 4, 12, 8, 16, 20, 24, 28]), rng.choice(REGISTERS))
-    if kind < 96:
-        return branch_word(rng)
-    return rng.choice([0x73, rng.getrandbits(32), 0x0FF0000F, registers_word(rng, 0x20, rng.choice([0, 5]))])
-
-
-def random_config(rng):
-    snoop = rng.choice([1, 2, 5])
-    return {
-        **DEFAULTS,
-        "cores": rng.randrange(1, 17),
-        "base": rng.choice([0, 4096, 65536]),
-        "memory": rng.choice([65536, 131072]),
-        "sets": rng.choice([1, 1, 2, 4, 16, 64]),
-        "ways": rng.choice([1, 1, 1, 2, 4, 8]),
-        "buses": rng.choice([1, 2, 4]),
-        "snoop": snoop,
-        "memory-delay": snoop + rng.choice([1, 3, 12]),
-        "transfer": rng.choice([1, 3, 9]),
-        "occupancy": rng.choice([1, 2, 7]),
-        "interval": rng.choice([1, 100, 1000]),
-        "limit": rng.choice([3000, 5000]),
-    }
-
-
-def random_program(rng, base):
-    data = base + 0x4000
-    head = [data | 8 << 7 | 0x37, data | 4 << 7 | 0x37, rng.choice([0, 4, 16, 32]) << 20 | 4 << 15 | 4 << 7 | 0x13]
-    body = [random_word(rng) for _ in range(rng.randrange(20, 120))]
-    return struct.pack(f"<{len(head) + len(body) + 3}I", *head, *body, 0x05D00893, 0x00000513, 0x00000073)
-
-
-def output(config, image, *words):
-    options = [word for name, value in config.items() for word in (f"--{name}", str(value))]
-    return subprocess.run([PROGRAM, "run", *options, *words], input=image, capture_output=True).stdout
+    def expect(self, report, text, *words):
+        """A run puts out this text, with the status of this report."""
+        ended = self.call(*words)
+        if ended.said() != (noted.status_of(report), text, b""):
+            raise Wrong(f"{' '.join(words)}: {ended}; not {text!r}")
 
 
 def any_steps(rng, cores):
@@ -138,93 +95,149 @@ def random_steps(rng, cores):
     return text, [(kind, core) for kind, core, count in items for _ in range(count)]
 
 
-def lockstep_differs(config, base, code, image):
-    machine = Machine(config, base, [(base, code)])
+def end_of(core):
+    if not core.end:
+        return "running"
+    if core.end[0] == "trap":
+        return f"trap {core.end[1]}"
+    return "exit not 0" if core.end[2] else "exit 0"
+
+
+def see_machine(seen, machine):
+    seen.update(end_of(core) for core in machine.cores)
+    seen["byte on the console"] += bool(machine.console.data)
+
+
+def see_notes(seen, notes, console):
+    """Counts kinds of intervals and records; the console's channel comes after the buses."""
+    for note in notes.intervals:
+        seen[f"interval {note.kind}"] += 1
+        seen.update(note.counts)
+        seen["clash on the console"] += sum(line.startswith(b"bus channel %d " % console) for line in note.records)
+
+
+def compare_lockstep(trial, seen):
+    machine = trial.machine()
     machine.run()
-    checked = output(config, image, "--check", "on")
-    return checked != machine.report() + b"coherence 0\n" or output(config, image, "--format", "dump") != machine.dump()
+    report = machine.report()
+    trial.expect(report, report + CHECKED, "--check", "on")
+    trial.expect(report, machine.dump(), "--format", "dump")
+    see_machine(seen, machine)
 
 
-def is_exact(machine, notes, code):
-    """Where nothing was recorded, the machine of the model is the one cycle by cycle."""
-    if notes.count("\n") - 1 > notes.count(" bus 0 map 0 line 0 reply 0\n"):
-        return True
-    base = machine.config["base"]
-    exact = Machine(machine.config, base, [(base, code)])
+def require_exact(trial, machine):
+    """The machine of the model ended as it does cycle by cycle."""
+    exact = trial.machine()
     while exact.clock < machine.clock:
         exact.cycle()
-    return exact.report() == machine.report() and exact.dump() == machine.dump()
+    if (exact.report(), exact.dump()) != (machine.report(), machine.dump()):
+        raise Wrong(f"nothing is recorded of a drift that ended otherwise than lockstep: {machine.report()!r}, not {exact.report()!r}")
 
 
-def drift_differs(machine, notes, code, image, words):
-    told = machine.report() + machine.coherence() + notes.encode()
-    words = [*words, "--notes", "on", "--check", "on"]
-    if is_exact(machine, notes, code) and output(machine.config, image, *words) == told:
-        return False
-    print(" ".join(words))
-    return True
+def compare_drift(trial, seen, machine, text, mode, *words):
+    """A drift that the words give."""
+    notes, report = noted.read(text.encode()), machine.report()
+    noted.check(notes, trial.setting(mode, ANY), machine.clock)
+    if not notes.records():
+        require_exact(trial, machine)
+    trial.expect(report, report + machine.coherence() + text.encode(), "--mode", mode, *words, "--notes", "on", "--check", "on")
+    see_machine(seen, machine)
+    see_notes(seen, notes, len(machine.buses))
 
 
-def script_config(rng, config):
+def compare_script(rng, trial, seen):
     """Mostly two cores, and one interval that ends before they do: so one may run ahead, and lines may break."""
     limit = rng.choice([rng.randrange(20, 300), rng.randrange(20, 300), 3000])
-    cores = rng.choice([2, 2, 2, config["cores"]])
-    return {**config, "cores": cores, "interval": rng.choice([20, 100, limit, limit]), "limit": limit}
+    cores = rng.choice([2, 2, 2, trial.config["cores"]])
+    # A run of given steps is of one interval, so its limit is the lesser of both.
+    limit = min(limit, rng.choice([20, 100, limit, limit]))
+    trial = trial.with_config(cores=cores, interval=limit, limit=limit)
+    text, steps = random_steps(rng, cores)
+    machine = trial.machine()
+    compare_drift(trial, seen, machine, script(machine, steps), "script", *(["--steps", text] if text else []))
 
 
-def script_differs(rng, config, base, code, image):
-    config = script_config(rng, config)
-    text, steps = random_steps(rng, config["cores"])
-    machine = Machine(config, base, [(base, code)])
-    notes = script(machine, steps)
-    return drift_differs(machine, notes, code, image, ["--mode", "script", *(["--steps", text] if text else [])])
-
-
-def quantum_differs(rng, config, base, code, image):
-    config = {**config, "interval": rng.choice([7, 100, 1000]), "limit": rng.choice([500, 1500])}
+def compare_quantum(rng, trial, seen):
+    trial = trial.with_config(interval=rng.choice([7, 100, 1000]), limit=rng.choice([500, 1500]))
     cycles = rng.choice([1, 2, 3, 5, 16, 64, 200])
-    machine = Machine(config, base, [(base, code)])
-    notes = quantum(machine, cycles)
-    return drift_differs(machine, notes, code, image, ["--mode", "quantum", "--quantum", str(cycles)])
+    machine = trial.machine()
+    compare_drift(trial, seen, machine, quantum(machine, cycles), "quantum", "--quantum", str(cycles))
 
 
-def speculative_differs(rng, config, base, code, image):
-    """Whatever the drifts were, the report and the memory are those of a run cycle by cycle."""
-    interval = rng.choice([1, 10, 100, 1000])
-    config = {**config, "interval": interval, "limit": 300 if interval == 1 else 1500}
-    machine = Machine(config, base, [(base, code)])
+def threaded(rng, trial):
+    """A trial whose runs by threads don't take long, and its slack."""
+    interval = rng.choice([10, 100, 1000])
+    trial = trial.with_config(interval=interval, limit=min(20 * interval, 1500))
+    return trial, rng.choice([1, 1, 2, 8, 64, 1000])
+
+
+def compare_speculative(rng, trial, seen):
+    """Whatever the drifts were, the report and the memory are those of a run cycle by cycle, and so the intervals too."""
+    trial, slack = threaded(rng, trial)
+    machine = trial.machine()
     machine.run()
-    words = ["--mode", "speculative", "--slack", str(rng.choice([1, 8, 64, 1000]))]
-    checked = output(config, image, *words, "--check", "on")
-    if checked == machine.report() + b"coherence 0\n" and output(config, image, *words, "--format", "dump") == machine.dump():
-        return False
-    print(" ".join(words))
-    return True
+    words, report = ["--mode", "speculative", "--slack", str(slack)], machine.report()
+    ended = trial.call(*words, "--check", "on", "--notes", "on")
+    told, text = noted.divided(ended.out)
+    if (ended.status, told, ended.err) != (noted.status_of(report), report + CHECKED, b""):
+        raise Wrong(f"{' '.join(words)}: {ended}; not {report!r}")
+    notes = noted.read(text)
+    noted.check(notes, trial.setting("speculative", slack), machine.clock)
+    see_notes(seen, notes, len(machine.buses))
+    trial.expect(report, machine.dump(), *words, "--format", "dump")
 
 
-def differs(rng):
+def compare_bounded(rng, trial, seen):
+    """A drift is the threads' own; but where nothing is recorded of any it ended as a run cycle by cycle."""
+    trial, slack = threaded(rng, trial)
+    words = ["--mode", "bounded", "--slack", str(slack)]
+    ended = trial.call(*words, "--check", "on", "--notes", "on")
+    told, text = noted.divided(ended.out)
+    if ended.status != noted.status_of(told) or ended.err:
+        raise Wrong(f"{' '.join(words)}: {ended}")
+    notes, setting = noted.read(text), trial.setting("bounded", slack)
+    noted.check(notes, setting, noted.checkpoint(told, setting))
+    see_notes(seen, notes, trial.config["buses"])
+    if not notes.records():
+        machine = trial.machine()
+        machine.run()
+        if told != machine.report() + CHECKED:
+            raise Wrong(f"{' '.join(words)}: {ended}; nothing is recorded, and it isn't {machine.report()!r}")
+
+
+def compare(rng, seen):
+    """A random program, in each mode."""
     config = random_config(rng)
-    base = config["base"]
-    code = random_program(rng, base)
-    image = b"SLK1" + struct.pack("<III", base, base, len(code)) + code
-    found = (
-        lockstep_differs(config, base, code, image)
-        or script_differs(rng, config, base, code, image)
-        or quantum_differs(rng, config, base, code, image)
-        or speculative_differs(rng, config, base, code, image)
-    )
-    if found:
-        print(f"differs: {config} {code.hex()}")
-    return found
+    trial = Trial(config, random_code(rng, config["base"]))
+    try:
+        compare_lockstep(trial, seen)
+        compare_script(rng, trial, seen)
+        compare_quantum(rng, trial, seen)
+        compare_speculative(rng, trial, seen)
+        compare_bounded(rng, trial, seen)
+    except Wrong as wrong:
+        raise Wrong(f"{wrong}\n{config} {trial.code.hex()}") from wrong
+
+
+def require_all(seen):
+    missed = [name for name in TO_SEE if not seen[name]]
+    if missed:
+        raise Wrong(f"never met: {', '.join(missed)}")
 
 
 def main():
-    count = int(sys.argv[1]) if len(sys.argv) > 1 else 200
-    rng = random.Random(int(sys.argv[2]) if len(sys.argv) > 2 else 1)
-    differences = sum(differs(rng) for _ in range(count))
-    print(f"{count} programs, {differences} differences")
+    count, rng = argument(1, 200), random.Random(argument(2, 1))
+    seen, differences = collections.Counter(), 0
+    for _ in range(count):
+        try:
+            compare(rng, seen)
+        except Wrong as wrong:
+            differences += 1
+            print(f"differs: {wrong}")
+    print(f"{count} programs, {differences} differences; met: {', '.join(f'{name} {seen[name]}' for name in TO_SEE)}")
+    require_all(seen)
     sys.exit(differences > 0)
 
 
 if __name__ == "__main__":
-    main()
+    run_script(main)

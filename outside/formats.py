@@ -8,15 +8,13 @@ refuse the file by the fault that is found here; what it wrote must be packed to
 examples, packed, must have the same reports as before.
 """
 
-import pathlib
 import random
 import struct
-import subprocess
 import sys
 
-TOP = pathlib.Path(__file__).resolve().parent.parent
-PROGRAM = TOP / "crates/slacksim/out/slacksim"
-IMAGES = sorted([*TOP.glob("examples/*.slk1"), *TOP.glob("examples/*.elf"), *TOP.glob("examples/c/*.elf")])
+from program import EXAMPLES, Status, argument, call, script
+
+IMAGES = sorted([*EXAMPLES.glob("*.slk1"), *EXAMPLES.glob("*.elf"), *EXAMPLES.glob("c/*.elf")])
 BASE, MEMORY = 8192, 4096
 
 
@@ -94,30 +92,30 @@ def random_file(rng):
     return bytes(file) + rng.randbytes(rng.choice([0, 0, 5]))
 
 
-def call(words, data):
-    done = subprocess.run([PROGRAM, *words], input=data, capture_output=True, check=False)
-    return done.returncode, done.stdout, done.stderr
+def said(words, data):
+    return call(words, data).said()
 
 
 def differs(file):
     place = ["--base", str(BASE), "--memory", str(MEMORY)]
     told = read(file)
-    ended = call(["pack", *place], file)
+    ended = said(["pack", *place], file)
     if isinstance(told, str):
-        return ended != (3, b"", f"slacksim: image: {told}\n".encode())
+        return ended != (Status.INPUT, b"", f"slacksim: image: {told}\n".encode())
     again = packed(*told)
-    return ended != (0, again, b"") or call(["pack", *place], again)[1] != again or call(["list", *place], again) != call(["list", *place], file)
+    whole = (Status.DONE, again, b"")
+    return ended != whole or said(["pack", *place], again) != whole or said(["list", *place], again) != said(["list", *place], file)
 
 
 def example_differs(path):
     image = path.read_bytes()
-    status, file, _ = call(["pack"], image)
-    return status != 0 or any(call([*words], file) != call([*words], image) for words in (["run"], ["run", "--cores", "2"], ["list"]))
+    ended = call(["pack"], image)
+    words = (["run"], ["run", "--cores", "2"], ["list"])
+    return ended.status != Status.DONE or any(said(each, ended.out) != said(each, image) for each in words)
 
 
 def main():
-    count = int(sys.argv[1]) if len(sys.argv) > 1 else 2000
-    rng = random.Random(int(sys.argv[2]) if len(sys.argv) > 2 else 1)
+    count, rng = argument(1, 2000), random.Random(argument(2, 1))
     differences = refused = 0
     for _ in range(count):
         file = random_file(rng)
@@ -134,4 +132,4 @@ def main():
 
 
 if __name__ == "__main__":
-    main()
+    script(main)

@@ -4,96 +4,131 @@
     python3 outside/refused_memory.py
 
 For each call below and each number of an allocation that it makes, the call is run with this allocation refused. Each answer
-must be want of memory (status 7, nothing written, one line on standard error), the call's own, or its own status with that
-line where its own line found no memory. The same is done with two tests, of a run under a gate and of a drift on one thread,
-which must pass or end for want of memory; `rt test` in the folders of their crates builds them, and one that isn't built is
-passed over. It says how many were tried.
+must be want of memory (status 7, nothing written, one line on standard error), the call's own, or, where the call's own answer
+has a line on standard error, its own status with the line of want of memory in place of that. The same is done with two tests,
+of a run under a gate and of a drift on one thread, which must pass or end for want of memory; `rt test` in the folders of their
+crates builds them. It fails where a program isn't built or no allocation was counted, and says how many were tried.
 """
 
-import os
 import pathlib
 import re
-import subprocess
 import sys
 import tempfile
+from typing import NamedTuple
 
-TOP = pathlib.Path(__file__).resolve().parent.parent
-PROGRAM = str(TOP / "crates/slacksim/out/slacksim")
+from program import NO_MEMORY, PROGRAM, Status, TOP, Wrong, call, example, library, script
+
 # Tests that pass whichever allocation of the call that they make is refused.
 TESTS = [
     ("slacksim", "tests::failures::want_of_memory_under_a_gate"),
     ("drift_tests", "serial::a_race_that_is_repeated"),
 ]
-WANT = b"slacksim: out of memory\n"
 WANT_IN_TEST = rb"error: (AllocError|AllocFailed \{ \.\. \}|OutOfMemory)\n.*result gives status 1\n"
+FAILED_TEST = 101
+EXIT_TEXT = b"addi a7, x0, 93\naddi a0, x0, 0\necall\n"
 
 
-def run(words, data, library=None, fail_at=0, count_in="", program=PROGRAM):
-    env = dict(os.environ)
-    if library:
-        env |= {"LD_PRELOAD": library, "FAIL_AT": str(fail_at)}
-    if count_in:
-        env["COUNT_IN"] = count_in
-    done = subprocess.run([program, *words], input=data, capture_output=True, env=env)
-    return done.returncode, done.stdout, done.stderr
+class Call(NamedTuple):
+    """A call of the program, or of a program of tests."""
+
+    words: tuple
+    data: bytes = b""
+    program: str = PROGRAM
+
+    def __str__(self):
+        return f"{' '.join(self.words)} < {len(self.data)} bytes"
 
 
-def calls():
-    example = lambda name: (TOP / "examples" / name).read_bytes()
-    assembled = lambda name: run(["asm"], example(name))[1]
+def small_calls():
+    """A call of each command, and one of each kind that is refused."""
     return [
-        (["run"], example("exit.slk1")),
-        (["run", "--cores", "2"], example("letters.slk1")),
-        (["run"], example("exit.elf")),
-        (["run", "--cores", "2", "--mode", "speculative", "--limit", "100", "--interval", "25"], assembled("stores.s")),
-        (["run", "--cores", "4", "--mode", "speculative", "--limit", "300", "--interval", "100", "--slack", "64"], assembled("lock.s")),
-        (["run", "--cores", "2", "--mode", "script", "--steps", "t1x2,s1", "--notes", "on"], assembled("stores.s")),
-        (["run", "--cores", "4", "--format", "dump", "--notes", "on", "--mode", "quantum", "--limit", "300"], assembled("lock.s")),
-        (["gen", "--seed", "7", "--cores", "2"], b""),
-        (["asm"], example("lock.s")),
-        (["list"], example("exit.elf")),
-        (["asm"], b"addi a0, x0, 2048\n"),
-        (["run", "--cores", "17"], b""),
+        Call(("run",), example("exit.slk1")),
+        Call(("asm",), EXIT_TEXT),
+        Call(("asm",), b"addi a0, x0, 2048\n"),
+        Call(("pack",), example("exit.elf")),
+        Call(("list",), example("exit.elf")),
+        Call(("run", "--cores", "17")),
+        Call(("run",), b"SLK3"),
     ]
 
 
+def larger_calls():
+    stores, lock = example("stores.s"), example("lock.s")
+    return [
+        Call(("run", "--cores", "2"), example("letters.slk1")),
+        Call(("run",), example("exit.elf")),
+        Call(("run", "--cores", "2", "--mode", "speculative", "--limit", "100", "--interval", "25"), stores),
+        Call(("run", "--cores", "4", "--mode", "speculative", "--limit", "300", "--interval", "100", "--slack", "64"), lock),
+        Call(("run", "--cores", "2", "--mode", "script", "--steps", "t1x2,s1", "--notes", "on"), stores),
+        Call(("run", "--cores", "4", "--format", "dump", "--notes", "on", "--mode", "quantum", "--limit", "300"), lock),
+        Call(("gen", "--seed", "7", "--cores", "2")),
+        Call(("asm",), (TOP / "examples/lock.s").read_bytes()),
+    ]
+
+
+def tests():
+    return [Call((test,), b"", str(TOP / f"crates/{crate}/out/{crate}_tests")) for crate, test in TESTS]
+
+
 def is_right(ended, own):
-    status, out, err = ended
-    return (status, out, err) == (7, b"", WANT) or (status, out) == own[:2] and err in (own[2], WANT)
+    if ended.said() in ((Status.MEMORY, b"", NO_MEMORY), own.said()):
+        return True
+    return bool(own.err) and ended.said() == (own.status, own.out, NO_MEMORY)
 
 
 def is_right_test(ended, own):
-    return ended == own or ended[0] == 101 and re.fullmatch(WANT_IN_TEST, ended[2], re.S)
+    wanted = ended.status == FAILED_TEST and re.fullmatch(WANT_IN_TEST, ended.err, re.S)
+    return ended.said() == own.said() or bool(wanted)
 
 
-def refuse_each(library, count_in, words, data, is_right, program=PROGRAM):
-    """Runs a call with each of its allocations refused, and says how many they are."""
-    own = run(words, data, program=program)
-    run(words, data, library, 0, count_in, program)
-    count = int.from_bytes(pathlib.Path(count_in).read_bytes(), sys.byteorder)
-    for number in range(1, count + 1):
-        ended = run(words, data, library, number, program=program)
-        if not is_right(ended, own):
-            print(f"allocation {number} of {count}: {' '.join(words)}: {ended}")
-            sys.exit(1)
-    print(f"{count} allocations: {' '.join(words)}")
-    return count
+class Refusals:
+    """Calls with allocations refused, by a library that is loaded before the C library."""
+
+    def __init__(self, folder):
+        self.library, self.counts = library("refused_memory.c", folder), pathlib.Path(folder) / "counts"
+
+    def run(self, call_made, number):
+        settings = {"LD_PRELOAD": self.library, "FAIL_AT": str(number), "COUNT_IN": str(self.counts)}
+        return call(call_made.words, call_made.data, settings=settings, program=call_made.program)
+
+    def count(self, call_made):
+        """How many allocations a call makes."""
+        self.counts.unlink(missing_ok=True)
+        self.run(call_made, 0)
+        count = int.from_bytes(self.counts.read_bytes(), sys.byteorder) if self.counts.exists() else 0
+        if not count:
+            raise Wrong(f"no allocation was counted: {call_made}")
+        return count
+
+    def refuse_each(self, call_made, is_right=is_right):
+        """Runs a call with each of its allocations refused, and says how many they are."""
+        own = call(call_made.words, call_made.data, program=call_made.program)
+        count = self.count(call_made)
+        for number in range(1, count + 1):
+            ended = self.run(call_made, number)
+            if not is_right(ended, own):
+                raise Wrong(f"allocation {number} of {count}: {call_made}: {ended}")
+        return count
+
+    def refuse_each_of_test(self, test):
+        """The same of a test, which passes where none is refused."""
+        own = call(test.words, program=test.program)
+        if own.status != 0:
+            raise Wrong(f"{test}: {own}")
+        return self.refuse_each(test, is_right_test)
 
 
 def main():
     with tempfile.TemporaryDirectory() as folder:
-        library, count_in = f"{folder}/refused_memory.so", f"{folder}/count"
-        source = str(pathlib.Path(__file__).with_suffix(".c"))
-        subprocess.run(["cc", "-O1", "-shared", "-fPIC", "-o", library, source, "-ldl"], check=True)
-        tried = sum(refuse_each(library, count_in, words, data, is_right) for words, data in calls())
-        for crate, test in TESTS:
-            program = TOP / f"crates/{crate}/out/{crate}_tests"
-            if program.exists():
-                tried += refuse_each(library, count_in, [test], b"", is_right_test, str(program))
-            else:
-                print(f"not built: the tests of {crate}")
+        refusals, tried = Refusals(folder), 0
+        kinds = [(refusals.refuse_each, small_calls() + larger_calls()), (refusals.refuse_each_of_test, tests())]
+        for refuse_each, calls in kinds:
+            for call_made in calls:
+                count = refuse_each(call_made)
+                print(f"{count} allocations: {call_made}", flush=True)
+                tried += count
         print(f"{tried} allocations refused in turn")
 
 
 if __name__ == "__main__":
-    main()
+    script(main)

@@ -1,10 +1,12 @@
-"""Runs the tests and counts them, with those that passed before: python3 -m explore.tests [PASSED BEFORE]"""
+"""Runs the tests in Python and counts them, with those that passed before: python3 .ci/run_tests.py PASSED [FOLDER..]"""
 
 import sys
 import unittest
 from pathlib import Path
 
-HERE = Path(__file__).resolve().parent
+TOP = Path(__file__).resolve().parent.parent
+# Of each folder that has tests, where the names of its modules begin.
+FOLDERS = {"explore": TOP, "outside": TOP / "outside"}
 
 
 class Result(unittest.TextTestResult):
@@ -18,9 +20,9 @@ class Result(unittest.TextTestResult):
 
 
 def main() -> int:
-    before = int(sys.argv[1]) if len(sys.argv) > 1 else 0
-    suite = unittest.defaultTestLoader.discover(str(HERE), top_level_dir=str(HERE.parent.parent))
-    result = unittest.TextTestRunner(sys.stdout, resultclass=Result).run(suite)
+    before, folders = int(sys.argv[1]), sys.argv[2:] or list(FOLDERS)
+    suites = [unittest.TestLoader().discover(str(TOP / it / "tests"), top_level_dir=str(FOLDERS[it])) for it in folders]
+    result = unittest.TextTestRunner(sys.stdout, resultclass=Result).run(unittest.TestSuite(suites))
     assert isinstance(result, Result)
     for test, why in result.skipped:
         print(f"skipped: {test.id()}: {why}")
