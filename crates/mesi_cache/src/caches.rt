@@ -150,5 +150,3 @@ impl Cache {
 
 pub mod copies;
 mod hits;
-#[cfg(test)]
-mod tests;

@@ -352,6 +352,3 @@ fn send(ask: Option<Ask>, out: &mut AskList) -> Result<(), OutOfMemory>
     }
     Ok(())
 }
-
-#[cfg(test)]
-mod tests;

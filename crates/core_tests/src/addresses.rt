@@ -1,5 +1,9 @@
 //! Accesses at the first and the last bytes of memory, which are 4096 and 12287, and beside them.
-use super::*;
+use crate::cores::{ONE_LINE, SC_X6, code_of, core_of, go_on};
+use slack_base::{Ask, AskList, CoreEnd, Id, Trap};
+use std::alloc::Global;
+use std::process::Abort;
+use timed_core::TimedCore;
 
 /// lui x8, 1
 const LUI_4096: u32 = 0x0000_1437;
@@ -39,20 +43,25 @@ const LR: u32 = 0x1004_232f;
 const AMOADD: u32 = 0x0084_232f;
 
 /// What an access that finds no line in the cache does.
-#[derive(Clone, Copy, Debug, PartialEq, Eq)]
+#[derive(Clone, Copy)]
 enum Outcome {
     /// It traps.
     Traps(Trap),
     /// It asks for the line of this number.
     Asks(u32),
+    /// It fails, as an SC that isn't reserved, and gives 1.
+    Fails,
 }
 
 /// The base of x8, what is added to it, and what the access does at that address.
 type Row = (u32, u32, Outcome);
 
-/// Accesses and whether each writes, and what they do at addresses beside and at the ends of memory.
+/// An access, and whether it writes.
+type Access = (u32, bool);
+
+/// Accesses, and what they do at addresses beside and at the ends of memory.
 struct Table {
-    accesses: &'static [(u32, bool)],
+    accesses: &'static [Access],
     rows: &'static [Row],
 }
 
@@ -97,55 +106,56 @@ const TABLES: [Table; 4] = [
         rows: &[
             (LUI_4096, LESS_4, Outcome::Traps(Trap::Outside { address: 4092 })),
             (LUI_4096, LESS_1, Outcome::Traps(Trap::Misaligned { address: 4095 })),
+            (LUI_4096, SAME, Outcome::Fails),
+            (LUI_12288, LESS_4, Outcome::Fails),
             (LUI_12288, LESS_2, Outcome::Traps(Trap::Misaligned { address: 12286 })),
             (LUI_12288, SAME, Outcome::Traps(Trap::Outside { address: 12288 })),
         ],
     },
 ];
 
-/// The access is executed in cycle 2.
-fn check(rt: &impl Abort, alloc: Global, access: u32, owns: bool, row: Row) -> Result<(), Fail> {
-    let (base, more, outcome) = row;
-    let seen = run(rt, alloc, &[base, more, access], &[], 3)?;
-    match outcome {
-        Outcome::Traps(trap) => {
-            assert_eq!(rt; seen.core.end(), CoreEnd::Trapped { at: 2, trap });
-            assert_eq!(rt; last_of(&seen), None);
-        }
-        Outcome::Asks(line) => {
-            let id = id(2, 0);
-            let ask = if owns {
-                Ask::ReadOwn { id, line }
-            } else {
-                Ask::Read { id, line }
-            };
-            assert_eq!(rt; seen.core.end(), CoreEnd::Running);
-            assert_eq!(rt; last_of(&seen), Some(ask));
-        }
+/// What an access in cycle 2 asks for.
+fn asked(line: u32, owns: bool) -> Ask {
+    let id = Id {
+        cycle: 2,
+        core: 0,
+        number: 0,
+    };
+    if owns {
+        Ask::ReadOwn { id, line }
+    } else {
+        Ask::Read { id, line }
     }
-    Ok(())
+}
+
+/// Whether this came of an access in cycle 2.
+fn came_of_it(core: &TimedCore, last: Option<Ask>, owns: bool, outcome: Outcome) -> bool {
+    match outcome {
+        Outcome::Traps(trap) => core.end() == CoreEnd::Trapped { at: 2, trap } && last.is_none(),
+        Outcome::Asks(line) => core.end() == CoreEnd::Running && last == Some(asked(line, owns)),
+        Outcome::Fails => core.reg(6) == 1 && core.counts().retired == 3 && last.is_none(),
+    }
+}
+
+/// Whether an access at an address does what it is to do there.
+fn is_right(rt: &impl Abort, alloc: Global, access: Access, row: &Row) -> bool {
+    let (word, owns) = access;
+    let (base, more, outcome) = *row;
+    let code = code_of(rt, alloc, &[base, more, word]);
+    let mut core = core_of(rt, alloc, ONE_LINE, &[]);
+    let mut asks = AskList::new(alloc);
+    go_on(rt, &mut core, &code, &mut asks, 0, 3);
+    came_of_it(&core, asks.as_slice().last().copied(), owns, outcome)
 }
 
 #[test]
-fn accesses_at_the_ends_of_memory(rt: HostRuntime) -> Result<(), Fail> {
+fn accesses_at_the_ends_of_memory(rt: HostRuntime) {
     for table in &TABLES {
-        for (access, owns) in table.accesses {
+        for access in table.accesses {
             for row in table.rows {
-                check(&rt, rt.alloc(), *access, *owns, *row)?;
+                let right = is_right(&rt, rt.alloc(), *access, row);
+                assert!(rt; right, "{:x} after {:x} and {:x}", access.0, row.0, row.1);
             }
         }
     }
-    Ok(())
-}
-
-/// An SC that isn't reserved fails where its address is right.
-#[test]
-fn an_sc_at_the_ends_of_memory(rt: HostRuntime) -> Result<(), Fail> {
-    for (base, more) in [(LUI_4096, SAME), (LUI_12288, LESS_4)] {
-        let seen = run(&rt, rt.alloc(), &[base, more, SC_X6], &[], 3)?;
-        assert_eq!(rt; seen.core.reg(6), 1);
-        assert_eq!(rt; seen.core.counts().retired, 3);
-        assert_eq!(rt; last_of(&seen), None);
-    }
-    Ok(())
 }
