@@ -240,6 +240,3 @@ impl Bus {
         self.setting.lines / self.setting.buses
     }
 }
-
-#[cfg(test)]
-mod tests;

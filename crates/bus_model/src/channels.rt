@@ -259,6 +259,3 @@ impl Channel {
         }
     }
 }
-
-#[cfg(test)]
-mod tests;

@@ -7,6 +7,3 @@ mod texts;
 
 pub use broken::{LineList, breaks};
 pub use texts::coherence_text;
-
-#[cfg(test)]
-mod tests;

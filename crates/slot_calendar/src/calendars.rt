@@ -140,6 +140,3 @@ impl Calendar {
         end
     }
 }
-
-#[cfg(test)]
-mod tests;

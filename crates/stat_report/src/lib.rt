@@ -8,8 +8,6 @@ mod lines;
 mod listings;
 mod notes;
 mod reports;
-#[cfg(test)]
-mod tests;
 
 pub use dumps::dump_text;
 pub use json_reports::report_json;

@@ -312,6 +312,3 @@ impl Entry {
         self.reply(&asked, receiver, delays.transfer, exclusive, out);
     }
 }
-
-#[cfg(test)]
-mod tests;

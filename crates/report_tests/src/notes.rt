@@ -1,9 +1,9 @@
 //! Notes worked by hand.
-use crate::notes_text;
 use slack_base::{
     AskList, ClashList, Drift, Id, Interval, NoteList, OutOfMemory, SentList, Violation,
     ViolationList,
 };
+use stat_report::notes_text;
 use std::alloc::Global;
 use std::test::Fail;
 
