@@ -1,9 +1,8 @@
 //! Executables of the format ELF32: their fields, their program headers, and what is loaded.
 use crate::files::{COUNT, ELF, ENTRY, Field, File, Number, Piece};
-use crate::images::{has_fault, memory_from, segments_in};
-use slack_base::{Config, ImageFault, OutOfMemory};
+use crate::images::{MIB, has_fault, segments_in};
+use slack_base::{ImageFault, OutOfMemory};
 use std::alloc::Global;
-use std::test::Fail;
 
 const CLASS: Field = (4, 1);
 
@@ -164,39 +163,44 @@ fn side_by_side(alloc: Global, count: u32, more: Piece) -> Result<Vec<Piece>, Ou
     Ok(pieces)
 }
 
-/// Whether a file of so many pieces of one byte, and one more, has this fault.
-fn many_have_fault(
-    alloc: Global,
-    count: u32,
-    more: Piece,
-    config: &Config,
-    fault: Option<ImageFault>,
-) -> Result<bool, OutOfMemory> {
-    let pieces = side_by_side(alloc, count, more)?;
-    has_fault(alloc, &File::Elf(0, &pieces), config, fault)
+/// The file of so many pieces of one byte, and one more: whether it has this fault.
+fn many_have_fault(alloc: Global, count: u32, more: Piece, fault: Option<ImageFault>) -> bool {
+    match side_by_side(alloc, count, more) {
+        Ok(pieces) => has_fault(alloc, &File::Elf(0, &pieces), MIB, fault),
+        Err(_) => false,
+    }
 }
 
 #[test]
-fn faults_of_executables(rt: HostRuntime) -> Result<(), Fail> {
-    let config = memory_from(&rt, 0, 1048576);
+fn faults_of_fields(rt: HostRuntime) {
     for (numbers, fault) in &CHANGED {
         let file = File::Bytes(&ELF, numbers);
-        assert!(rt; has_fault(rt.alloc(), &file, &config, *fault)?, "{file:?}");
+        assert!(rt; has_fault(rt.alloc(), &file, MIB, *fault), "{numbers:?}");
     }
-    for (entry, pieces, fault) in &LOADED {
-        let file = File::Elf(*entry, pieces);
-        assert!(rt; has_fault(rt.alloc(), &file, &config, *fault)?, "{file:?}");
-    }
-    for (count, more, fault) in &MANY {
-        assert!(rt; many_have_fault(rt.alloc(), *count, *more, &config, *fault)?, "{more:?}");
-    }
-    Ok(())
 }
 
 #[test]
-fn sixty_four_pieces(rt: HostRuntime) -> Result<(), Fail> {
-    let config = memory_from(&rt, 0, 1048576);
-    let pieces = side_by_side(rt.alloc(), 64, NOTHING)?;
-    assert_eq!(rt; segments_in(rt.alloc(), &File::Elf(0, &pieces), &config)?, 64);
-    Ok(())
+fn faults_of_pieces(rt: HostRuntime) {
+    for (entry, pieces, fault) in &LOADED {
+        let file = File::Elf(*entry, pieces);
+        assert!(rt; has_fault(rt.alloc(), &file, MIB, *fault), "{fault:?}");
+    }
+    for (count, more, fault) in &MANY {
+        assert!(rt;
+            many_have_fault(rt.alloc(), *count, *more, *fault),
+            "at {}",
+            more.address
+        );
+    }
+}
+
+/// How many segments a file of so many pieces of one byte has, and one of none.
+fn segments_of_many(alloc: Global, count: u32) -> Option<usize> {
+    let pieces = side_by_side(alloc, count, NOTHING).ok()?;
+    segments_in(alloc, &File::Elf(0, &pieces))
+}
+
+#[test]
+fn sixty_four_pieces(rt: HostRuntime) {
+    assert!(rt; segments_of_many(rt.alloc(), 64) == Some(64));
 }

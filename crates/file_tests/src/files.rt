@@ -45,7 +45,7 @@ pub type Number = (Field, u32);
 pub type Header = [u32; 3];
 
 /// A program header of an executable.
-#[derive(Clone, Copy, Debug)]
+#[derive(Clone, Copy)]
 pub struct Piece {
     pub kind: u32,
     pub offset: u32,
@@ -55,7 +55,7 @@ pub struct Piece {
 }
 
 /// What a file is made of.
-#[derive(Clone, Copy, Debug)]
+#[derive(Clone, Copy)]
 pub enum File<'a> {
     /// Bytes with other numbers in them.
     Bytes(&'a [u8], &'a [Number]),
@@ -92,9 +92,11 @@ fn with_numbers(alloc: Global, bytes: &[u8], numbers: &[Number]) -> Result<Vec<u
 /// Puts a number in its place.
 fn put_number(file: &mut [u8], number: &Number) {
     let ((at, size), value) = *number;
-    let place = file.iter_mut().skip(at).take(size);
-    for (byte, new) in place.zip(value.to_le_bytes()) {
-        *byte = new;
+    let bytes = value.to_le_bytes();
+    for i in 0..size.min(4) {
+        if let Some(byte) = file.get_mut(at.saturating_add(i)) {
+            *byte = bytes[i];
+        }
     }
 }
 

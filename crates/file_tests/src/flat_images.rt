@@ -2,11 +2,10 @@
 ghost use Rattle.std.specs.Prelude.{◌<◌, ◌^◌, length};
 
 use crate::files::{BODY, FLAT, File};
-use crate::images::{has_fault, memory_from};
-use image_load::{flat_bytes, image_fault};
-use slack_base::{ByteList, Config, Image, ImageFault, OutOfMemory};
+use crate::images::{MIB, bytes_have_fault, has_fault};
+use image_load::flat_bytes;
+use slack_base::{ByteList, Image, ImageFault, OutOfMemory};
 use std::alloc::Global;
-use std::test::Fail;
 
 /// Where memory begins and how much there is, the numbers at the head of a file with the body (address, entry and
 /// length), and its first fault.
@@ -53,14 +52,13 @@ const HEADS: [Head; 31] = [
 ];
 
 #[test]
-fn faults_of_heads(rt: HostRuntime) -> Result<(), Fail> {
+fn faults_of_heads(rt: HostRuntime) {
     for (memory, address, entry, length, fault) in &HEADS {
-        let config = memory_from(&rt, memory.0, memory.1);
         let numbers = [((4, 4), *address), ((8, 4), *entry), ((12, 4), *length)];
         let file = File::Bytes(&FLAT, &numbers);
-        assert!(rt; has_fault(rt.alloc(), &file, &config, *fault)?, "{numbers:?}");
+        let holds = has_fault(rt.alloc(), &file, *memory, *fault);
+        assert!(rt; holds, "{address}, {entry}, {length}");
     }
-    Ok(())
 }
 
 /// The SLK1 file of an image of these bytes.
@@ -71,23 +69,35 @@ fn written(alloc: Global, address: u32, entry: u32, bytes: &[u8]) -> Result<Byte
     flat_bytes(alloc, &image)
 }
 
-#[test]
-fn a_file_is_written(rt: HostRuntime) -> Result<(), Fail> {
-    let file = written(rt.alloc(), 0, 0, &BODY)?;
-    assert!(rt; file.as_slice() == FLAT.as_slice());
-    Ok(())
-}
-
-/// Whether a file of 8 MiB with one piece, which is longer than memory, is refused for that.
-fn large_file_is_refused(alloc: Global, config: &Config) -> Result<bool, OutOfMemory> {
-    let mut file = vec![in alloc; 0u8; 8388608]?;
-    file[..16].copy_from_slice(b"SLK1\0\0\0\0\0\0\0\0\xf0\xff\x7f\0");
-    Ok(image_fault(&file, config) == Some(ImageFault::Outside { index: 0 }))
+/// Whether the file of the body at address 0 is written.
+fn flat_is_written(alloc: Global) -> bool {
+    match written(alloc, 0, 0, &BODY) {
+        Ok(file) => file.as_slice() == FLAT.as_slice(),
+        Err(_) => false,
+    }
 }
 
 #[test]
-fn a_file_larger_than_memory(rt: HostRuntime) -> Result<(), Fail> {
-    let config = memory_from(&rt, 0, 1048576);
-    assert!(rt; large_file_is_refused(rt.alloc(), &config)?);
-    Ok(())
+fn a_file_is_written(rt: HostRuntime) {
+    assert!(rt; flat_is_written(rt.alloc()));
+}
+
+/// A file of 8 MiB with one piece.
+fn large_file(alloc: Global) -> Result<Vec<u8>, OutOfMemory> {
+    let mut file = Vec::from_slice(alloc, b"SLK1\0\0\0\0\0\0\0\0\xf0\xff\x7f\0")?;
+    file.resize(8388608, 0)?;
+    Ok(file)
+}
+
+/// Whether a file whose piece is longer than memory is refused for that.
+fn large_file_is_refused(alloc: Global) -> bool {
+    match large_file(alloc) {
+        Ok(file) => bytes_have_fault(&file, MIB, Some(ImageFault::Outside { index: 0 })),
+        Err(_) => false,
+    }
+}
+
+#[test]
+fn a_file_larger_than_memory(rt: HostRuntime) {
+    assert!(rt; large_file_is_refused(rt.alloc()));
 }

@@ -1,9 +1,7 @@
 //! Files that are cut, files of no format, and files that are read.
 use crate::files::{ELF, FLAT, File, PACKED, Piece};
-use crate::images::{Place, has_fault, memory_from, reads_as};
-use image_load::image_fault;
-use slack_base::{Config, ImageFault};
-use std::test::Fail;
+use crate::images::{MIB, Place, bytes_have_fault, reads_as};
+use slack_base::ImageFault;
 
 /// The first bytes of files of no format.
 const MAGICS: [&'static [u8]; 10] = [
@@ -21,9 +19,11 @@ const MAGICS: [&'static [u8]; 10] = [
 
 #[test]
 fn files_of_no_format(rt: HostRuntime) {
-    let config = memory_from(&rt, 0, 1048576);
     for magic in &MAGICS {
-        assert_eq!(rt; image_fault(magic, &config), Some(ImageFault::Magic), "{magic:?}");
+        assert!(rt;
+            bytes_have_fault(magic, MIB, Some(ImageFault::Magic)),
+            "{magic:?}"
+        );
     }
 }
 
@@ -72,22 +72,35 @@ const FRONTS: [Front; 14] = [
 ];
 
 /// Whether each of a row's fronts has its fault.
-fn fronts_need(row: &Front, config: &Config) -> bool {
+fn fronts_need(row: &Front) -> bool {
     let (file, from, to, need) = *row;
-    (from..to).all(|have| {
-        let fault = need.map(|need| ImageFault::Short {
+    for have in from..to {
+        if !front_needs(file, have, need) {
+            return false;
+        }
+    }
+    true
+}
+
+/// Whether so many bytes of a file are too few, and how many are needed.
+fn front_needs(file: &[u8], have: usize, need: Option<u64>) -> bool {
+    let fault = match need {
+        Some(need) => Some(ImageFault::Short {
             have: have as u64,
             need,
-        });
-        file.get(..have).is_some_and(|front| image_fault(front, config) == fault)
-    })
+        }),
+        None => None,
+    };
+    match file.get(..have) {
+        Some(front) => bytes_have_fault(front, MIB, fault),
+        None => false,
+    }
 }
 
 #[test]
 fn fronts_of_files(rt: HostRuntime) {
-    let config = memory_from(&rt, 0, 1048576);
     for row in &FRONTS {
-        assert!(rt; fronts_need(row, &config), "{row:?}");
+        assert!(rt; fronts_need(row), "from {} on", row.1);
     }
 }
 
@@ -112,10 +125,8 @@ const READ: [Read; 10] = [
 ];
 
 #[test]
-fn images_of_files(rt: HostRuntime) -> Result<(), Fail> {
-    let config = memory_from(&rt, 0, 1048576);
+fn images_of_files(rt: HostRuntime) {
     for (file, entry, places) in &READ {
-        assert!(rt; reads_as(rt.alloc(), file, &config, *entry, places)?, "{file:?}");
+        assert!(rt; reads_as(rt.alloc(), file, *entry, places), "at {entry}");
     }
-    Ok(())
 }

@@ -277,7 +277,10 @@ const MILLION_AND_ONE: &[u8] =
 const LONG: [Refused; 3] = [
     (WHOLE_AND_ONE, WordFault::Twice { place: 39 }),
     (MILLION_AND_ONE, WordFault::Steps { place: 2, at: 90 }),
-    (b"run --steps t0x99999,q,t0x99999", WordFault::Steps { place: 2, at: 9 }),
+    (
+        b"run --steps t0x99999,q,t0x99999",
+        WordFault::Steps { place: 2, at: 9 },
+    ),
 ];
 
 const TABLES: [&'static [Refused]; 5] = [&FORMS, &VALUES, &STEPS, &BOUNDS, &LONG];

@@ -53,10 +53,13 @@ fn listed_have_fault(alloc: Global, listed: &[&[u8]], fault: Option<WordFault>) 
 /// Whether the commands that are said to have an option have it, and the others don't.
 fn is_had(alloc: Global, had: &Had) -> bool {
     let unknown = Some(WordFault::Option { place: 1 });
-    COMMANDS.iter().zip(&had.by).all(|(command, has)| {
+    for (command, has) in COMMANDS.iter().zip(&had.by) {
         let fault = if *has { None } else { unknown };
-        listed_have_fault(alloc, &[*command, had.option, had.value], fault)
-    })
+        if !listed_have_fault(alloc, &[*command, had.option, had.value], fault) {
+            return false;
+        }
+    }
+    true
 }
 
 /// Whether an option is refused where it stands twice, and where it has no value.
@@ -65,8 +68,11 @@ fn stands_once(alloc: Global, had: &Had) -> bool {
     let command: &[u8] = if by_run { b"run" } else { b"gen" };
     let twice = Some(WordFault::Twice { place: 3 });
     let bare = Some(WordFault::Form { place: 2 });
-    listed_have_fault(alloc, &[command, had.option, had.value, had.option, had.value], twice)
-        && listed_have_fault(alloc, &[command, had.option], bare)
+    listed_have_fault(
+        alloc,
+        &[command, had.option, had.value, had.option, had.value],
+        twice,
+    ) && listed_have_fault(alloc, &[command, had.option], bare)
         && listed_have_fault(alloc, &[command, had.option, b""], bare)
         && listed_have_fault(alloc, &[command, had.option, b"-1"], bare)
 }

@@ -101,7 +101,7 @@ const WHOLE: Wanted = Wanted {
 type Accepted = (&'static [u8], Wanted);
 
 #[rattlefmt::skip]
-const ACCEPTED: [Accepted; 51] = [
+static ACCEPTED: [Accepted; 51] = [
     // numbers at their bounds
     (b"run", RUN),
     (b"run --cores 1", Wanted { numbers: RawConfig { cores: 1, ..DEFAULT }, ..RUN }),

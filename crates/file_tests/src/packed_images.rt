@@ -1,10 +1,9 @@
 //! Files of the format SLK2.
 use crate::files::{FLAT, File, Header, PACKED, bytes_of};
-use crate::images::{has_fault, memory_from};
-use image_load::{ImageError, packed_bytes, read_image};
-use slack_base::{Config, ImageFault, OutOfMemory};
+use crate::images::{MIB, has_fault, image_of};
+use image_load::packed_bytes;
+use slack_base::{ByteList, ImageFault, OutOfMemory};
 use std::alloc::Global;
-use std::test::Fail;
 
 /// The entry, the headers, how many bytes stand behind them, and the first fault. Memory is from 0 to 1048576.
 type Head = (u32, &'static [Header], usize, Option<ImageFault>);
@@ -61,40 +60,50 @@ fn side_by_side(alloc: Global, count: u32) -> Result<Vec<Header>, OutOfMemory> {
 }
 
 /// Whether a file of so many pieces has this fault.
-fn many_have_fault(
-    alloc: Global,
-    count: u32,
-    config: &Config,
-    fault: Option<ImageFault>,
-) -> Result<bool, OutOfMemory> {
-    let headers = side_by_side(alloc, count)?;
-    has_fault(alloc, &File::Packed(0, &headers, 0), config, fault)
+fn many_have_fault(alloc: Global, count: u32, fault: Option<ImageFault>) -> bool {
+    match side_by_side(alloc, count) {
+        Ok(headers) => has_fault(alloc, &File::Packed(0, &headers, 0), MIB, fault),
+        Err(_) => false,
+    }
 }
 
 #[test]
-fn faults_of_heads(rt: HostRuntime) -> Result<(), Fail> {
-    let config = memory_from(&rt, 0, 1048576);
+fn faults_of_heads(rt: HostRuntime) {
     for (entry, headers, given, fault) in &HEADS {
         let file = File::Packed(*entry, headers, *given);
-        assert!(rt; has_fault(rt.alloc(), &file, &config, *fault)?, "{file:?}");
+        assert!(rt; has_fault(rt.alloc(), &file, MIB, *fault), "{headers:?}");
     }
     for (count, fault) in &COUNTS {
-        assert!(rt; many_have_fault(rt.alloc(), *count, &config, *fault)?, "{count}");
+        assert!(rt; many_have_fault(rt.alloc(), *count, *fault), "{count}");
     }
-    Ok(())
+}
+
+/// The file that is written of a file's image, and how many segments the image has.
+fn packed_again(alloc: Global, file: &File) -> Option<(ByteList, usize)> {
+    let bytes = bytes_of(alloc, file).ok()?;
+    let image = image_of(alloc, &bytes)?;
+    let packed = packed_bytes(alloc, &image).ok()?;
+    Some((packed, image.segments.len()))
 }
 
 /// Whether the image of a file is written as another file, from so many segments.
-fn is_packed_as(
-    alloc: Global,
-    file: &File,
-    config: &Config,
-    count: usize,
-    other: &File,
-) -> Result<bool, ImageError> {
-    let image = read_image(alloc, &bytes_of(alloc, file)?, config)?;
-    let packed = packed_bytes(alloc, &image)?;
-    Ok(image.segments.len() == count && packed.as_slice() == bytes_of(alloc, other)?.as_slice())
+fn is_packed_as(alloc: Global, file: &File, count: usize, other: &File) -> bool {
+    match (packed_again(alloc, file), bytes_of(alloc, other)) {
+        (Some((packed, found)), Ok(bytes)) => found == count
+            && packed.as_slice() == bytes.as_slice(),
+        _ => false,
+    }
+}
+
+/// Whether a file of so many pieces is written as itself.
+fn many_are_packed(alloc: Global, count: u32) -> bool {
+    match side_by_side(alloc, count) {
+        Ok(headers) => {
+            let file = File::Packed(0, &headers, 0);
+            is_packed_as(alloc, &file, headers.len(), &file)
+        }
+        Err(_) => false,
+    }
 }
 
 /// A file, how many segments its image has, and the file that is written of it.
@@ -111,13 +120,9 @@ const PACKED_AS: [Packed; 2] = [
 ];
 
 #[test]
-fn images_are_packed(rt: HostRuntime) -> Result<(), Fail> {
-    let config = memory_from(&rt, 0, 1048576);
+fn images_are_packed(rt: HostRuntime) {
     for (file, count, other) in &PACKED_AS {
-        assert!(rt; is_packed_as(rt.alloc(), file, &config, *count, other)?, "{file:?}");
+        assert!(rt; is_packed_as(rt.alloc(), file, *count, other), "{count}");
     }
-    let headers = side_by_side(rt.alloc(), 64)?;
-    let file = File::Packed(0, &headers, 0);
-    assert!(rt; is_packed_as(rt.alloc(), &file, &config, 64, &file)?);
-    Ok(())
+    assert!(rt; many_are_packed(rt.alloc(), 64));
 }

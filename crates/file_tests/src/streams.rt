@@ -66,13 +66,23 @@ fn are_read(alloc: Global, row: &Reading) -> bool {
     if step == 0 || most > 12 {
         return false;
     }
-    (from..=to).all(|failing| is_read(alloc, step, failing, most, fault))
+    for failing in from..=to {
+        if !is_read(alloc, step, failing, most, fault) {
+            return false;
+        }
+    }
+    true
 }
 
 #[test]
 fn texts_are_read(rt: HostRuntime) {
     for row in &READINGS {
-        assert!(rt; are_read(rt.alloc(), row), "{row:?}");
+        assert!(rt;
+            are_read(rt.alloc(), row),
+            "{} a call, from {} on",
+            row.0,
+            row.1
+        );
     }
 }
 
@@ -139,7 +149,12 @@ fn is_written(alloc: Global, row: &Writing) -> bool {
 #[test]
 fn texts_are_written(rt: HostRuntime) {
     for row in &WRITINGS {
-        assert!(rt; is_written(rt.alloc(), row), "{row:?}");
+        assert!(rt;
+            is_written(rt.alloc(), row),
+            "{} a call, at {}",
+            row.1,
+            row.2
+        );
     }
 }
 
