@@ -1,5 +1,5 @@
 -- What closing keeps, and what an ask above all others makes of it.
-use Rattle.std.proofs.Common.{◌≡◌, ◌∙◌, ℕ, true, false, cond, List, [], ◌∷◌, Option, Some, None, IfSome, IsTrue, refl, sym, ap, subst}
+use Rattle.std.proofs.Common.{◌≡◌, ◌∙◌, ℕ, true, false, cond, List, [], ◌∷◌, Option, Some, None, IfSome, IsTrue, refl, sym, ap, subst, arith}
 use Rattle.std.specs.List.{AllByRecursion as Each}
 use Rattle.slack_base.specs.declared.messages.Ask.{Ask}
 use Rattle.slack_base.specs.declared.stamps.Id.{Id}
@@ -12,6 +12,7 @@ use Rattle.slot_calendar.specs.Asks.{IsNext}
 use Rattle.slot_calendar.proofs.Ids.{above_back}
 use Rattle.slot_calendar.proofs.Ends.{last_end_top}
 use Rattle.slot_calendar.proofs.Swaps.{closing, next_clash}
+use Rattle.slot_calendar.proofs.Turns.{all_ends}
 use Rattle.bus_model.specs.Channels.{BusValue, ChannelValue, AsBus, AsConsole, entry_of}
 use Rattle.bus_model.specs.Closing.{bus_closed, closed}
 use Rattle.bus_model.specs.ClosingLaws.{AllBelow, IsLast, IsReopened, AllClose, AllReopen, AllLast}
@@ -23,9 +24,10 @@ pub closes : AllClose
 closes s (AsBus b) sound same = record {
   sound = record { number = sound.number; count = sound.count; free = last_end_top b.setting.occupancy b.free b.slots sound.free; asks = sound.asks; retries = sound.retries; named = sound.named };
   same = same;
+  free = (all_ends b.setting.occupancy b.free b.slots).behind_free;
   once = refl;
 }
-closes s (AsConsole c) sound same = record { sound = tt; same = same; once = refl }
+closes s (AsConsole c) sound same = record { sound = tt; same = same; free = omega arith; once = refl }
 
 -- the same posts, and once the bus is closed the same bus
 record IsBusReopened (b : BusValue) (x : Ask) (line : Option ℕ) : Type 0 where

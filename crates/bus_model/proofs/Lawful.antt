@@ -31,7 +31,7 @@ unchanged : (b : BusValue) (ask : Ask) → IsSoundBus b → IsLawfulBus b ask (b
 unchanged b ask s = record {
   sound = s;
   same = refl;
-  free = omega arith;
+  free = refl;
   posts = All-nil _;
   once = λ i j d low high. absurd (omega arith);
 }
@@ -79,7 +79,7 @@ granted-lawful b ask line e slow s low of_line at_line =
         named = All-set (λ (v : EntryView). NamesBelow b.setting.cores v.kind) b.entries (line / b.setting.buses) _ is.named s.named;
       };
       same = refl;
-      free = omega arith;
+      free = refl;
       posts = λ k d lt. record {
         to = is.received k d lt;
         id = is.carried k d lt;
@@ -113,7 +113,7 @@ channels-lawful s (AsBus b) ask slow sound same of =
 channels-lawful s (AsConsole c) ask slow sound same of = record {
   sound = tt;
   same = same;
-  free = omega arith;
+  free = refl;
   posts = All-nil _;
   once = λ i j d low high. absurd (omega arith);
 }

@@ -1,23 +1,24 @@
 -- What closing keeps, and of which asks it makes no difference whether they come in the order of their ids.
-use Rattle.std.specs.Prelude.{◌≡◌, ◌≢◌, ◌/◌, ℕ, IsTrue, List, Option, None, Some, IfSome}
+use Rattle.std.specs.Prelude.{◌≡◌, ◌≢◌, ◌≤◌, ◌/◌, ℕ, IsTrue, List, Option, None, Some, IfSome}
 use Rattle.std.specs.List.{AllByRecursion as Each}
 use Rattle.slack_base.specs.declared.messages.Ask.{Ask}
 use Rattle.slack_base.specs.Messages.{id_of, line_of}
 use Rattle.slack_base.specs.Stamps.{is_above}
 use Rattle.bus_model.specs.Settings.{SettingValue}
-use Rattle.bus_model.specs.Channels.{ChannelValue, AsBus, AsConsole, IsSound}
+use Rattle.bus_model.specs.Channels.{ChannelValue, AsBus, AsConsole, IsSound, free_of}
 use Rattle.bus_model.specs.Serving.{served, served_all}
 use Rattle.bus_model.specs.Closing.{clash, closed}
 use Rattle.bus_model.specs.Laws.{HasSetting}
 
--- a closed channel is sound and has its setting, as before, and closing it again changes nothing
-pub record IsClosed (s : SettingValue) (after : ChannelValue) : Type 0 where
+-- a closed channel is sound and has its setting, as before, and is free no sooner; closing it again changes nothing
+pub record IsClosed (s : SettingValue) (before after : ChannelValue) : Type 0 where
   pub sound : IsSound after
   pub same : HasSetting s after
+  pub free : free_of before ≤ free_of after
   pub once : closed after ≡ after
 
 abbrev pub AllClose : Type 0
-AllClose = (s : SettingValue) (c : ChannelValue) → IsSound c → HasSetting s c → IsClosed s (closed c)
+AllClose = (s : SettingValue) (c : ChannelValue) → IsSound c → HasSetting s c → IsClosed s c (closed c)
 
 -- these asks have ids below that of x
 abbrev pub AllBelow : Ask → List Ask → Type 0

@@ -30,12 +30,12 @@ pub record IsPostOf (s : SettingValue) (ask : Ask) (p : Post) : Type 0 where
   pub line : Some p.line ≡ line_of ask
   pub due : (id_of ask).cycle + lookahead_of s.delays ≤ p.due
 
--- a channel that was asked is sound, has its setting as before and is free no sooner; the posts are the ask's, and no
--- core gets two of them
+-- a channel that was asked is sound, has its setting and is free from the same cycle as before; the posts are the ask's, and
+-- no core gets two of them
 pub record IsLawful (s : SettingValue) (ask : Ask) (before after : ChannelValue) (sent : List Post) : Type 0 where
   pub sound : IsSound after
   pub same : HasSetting s after
-  pub free : free_of before ≤ free_of after
+  pub free : free_of after ≡ free_of before
   pub posts : All (IsPostOf s ask) sent
   pub once : AllPairs (λ p q. p.to ≢ q.to) sent
 

@@ -2,8 +2,8 @@
 ghost use Rattle.bus_model.specs.ClosingLaws.{AllClose, AllReopen, AllLast, AllSwap};
 ghost use Rattle.bus_model.specs.Laws.{AllLawful, AllMayServe};
 
-/// The law of channels. A channel that is asked stays sound, keeps its setting, and is free no sooner than before. Each
-/// post of the ask carries its id and its line, goes to a core of the machine, no two to one, and is due after the least
+/// The law of channels. A channel that is asked stays sound, keeps its setting, and is free from the same cycle as before:
+/// only closing moves that. Each post of the ask carries its id and its line, goes to a core of the machine, no two to one, and is due after the least
 /// delay from the ask's stamp at the soonest.
 pub fn law_of_channels()
     ensures { AllLawful }
@@ -14,7 +14,8 @@ pub fn law_of_asks()
     ensures { AllMayServe }
 {}
 
-/// A channel that is closed stays sound and keeps its setting, and closing twice is closing once.
+/// A channel that is closed stays sound, keeps its setting and is free no sooner than before, and closing twice is closing
+/// once.
 pub fn law_of_closing()
     ensures { AllClose }
 {}

@@ -5,6 +5,3 @@ pub mod checkpoints;
 mod marks;
 
 pub use checkpoints::Checkpoint;
-
-#[cfg(test)]
-mod tests;

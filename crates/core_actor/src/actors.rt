@@ -58,7 +58,7 @@ impl<C: Send + Drop> CoreActor<C> {
         }
     }
 
-    /// The core, the posts that it took, and what its watch found.
+    /// The core, the posts that it took, and what its watch found. Posts that were received and not taken are let go.
     pub fn into_parts(self) -> (C, TakenList, ViolationList)
         ensures { result ≡ (self.lane.core, self.lane.taken, self.watch.found) }
     {

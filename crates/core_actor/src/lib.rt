@@ -7,6 +7,3 @@ pub mod legs;
 pub mod turns;
 
 pub use actors::{ActorParts, CoreActor};
-
-#[cfg(test)]
-mod tests;

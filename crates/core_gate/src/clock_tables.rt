@@ -91,6 +91,3 @@ impl ClockTable {
         Ok((overseer, pacers))
     }
 }
-
-#[cfg(test)]
-mod tests;

@@ -81,6 +81,3 @@ fn least_of(numbers: &[u64]) -> u64
         None => unreachable!(),
     }
 }
-
-#[cfg(test)]
-mod tests;

@@ -127,6 +127,3 @@ impl Pacer {
         self.clock = clock;
     }
 }
-
-#[cfg(test)]
-mod tests;

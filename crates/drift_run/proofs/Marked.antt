@@ -44,7 +44,7 @@ module _ {Inner Chan : Type 0} (rules : Rules Inner Chan) (owns : Owns Inner Cha
 
     pub exact_after : Laws rules owns → (len : ℕ) (seen : List Violation) → IsProper rules owns (seen_as clock cores chans) → clock + len ≤ TOP → d.len ≡ len → seen ≡ scan_of rules d
         → IsExactIfQuiet rules (seen_as clock cores chans) d seen (seen_as end cores' chans')
-    exact_after laws len seen proper top long noted punctual quiet =
+    exact_after laws len seen proper top long noted quiet =
         let start : d.start ≡ clock = drift_after.start in
         let at : end ≡ d.start + d.len = drift_after.clock in
-        complete rules owns laws (seen_as clock cores chans) d (seen_as end cores' chans') proper punctual drift_after (omega (arith, start, at, long, top)) (sym noted ∙ quiet)
+        complete rules owns laws (seen_as clock cores chans) d (seen_as end cores' chans') proper drift_after (omega (arith, start, at, long, top)) (sym noted ∙ quiet)

@@ -153,7 +153,7 @@ pub fn drift<R: Threads + Sync, T: Target + Sync, G: Gate + Sync>(
     ensures len { IfOk result (λ r. r.drift.len ≡ len) }
     ensures proper { IfOk result (λ r. IsProper (T.rules target.now) (T.owns target.now) (state_of T.values r.end)) }
     ensures seen { IfOk result (λ r. r.seen ≡ scan_of (T.rules target.now) r.drift) }
-    // Where no post was late at the start and nothing was seen, the end is lockstep's, and so are the asks, each once.
+    // Where nothing was seen, the end is lockstep's, and so are the asks, each once.
     ensures exact { IfOk result (λ r. IsExactIfQuiet (T.rules target.now) (state_of T.values state) r.drift r.seen (state_of T.values r.end)) }
     // Where the gate holds a core alone, the early asks of the others were served before its first.
     ensures holds { IfOk result (λ r. KeepsHolds (record { may = G.may_hold gate.now; must = G.must_hold gate.now }) (T.rules target.now).cores pace.now.slack state.clock len r.drift.served) }
@@ -188,7 +188,7 @@ pub fn drift_serial<T: Target, G: Gate>(
     ensures len { IfOk result (λ r. r.drift.len ≡ len) }
     ensures proper { IfOk result (λ r. IsProper (T.rules target.now) (T.owns target.now) (state_of T.values r.end)) }
     ensures seen { IfOk result (λ r. r.seen ≡ scan_of (T.rules target.now) r.drift) }
-    // Where no post was late at the start and nothing was seen, the end is lockstep's, and so are the asks, each once.
+    // Where nothing was seen, the end is lockstep's, and so are the asks, each once.
     ensures exact { IfOk result (λ r. IsExactIfQuiet (T.rules target.now) (state_of T.values state) r.drift r.seen (state_of T.values r.end)) }
     // Where the gate holds a core alone, the early asks of the others were served before its first.
     ensures holds { IfOk result (λ r. KeepsHolds (record { may = G.may_hold gate.now; must = G.must_hold gate.now }) (T.rules target.now).cores pace.now.slack state.clock len r.drift.served) }

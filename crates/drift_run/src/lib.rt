@@ -11,6 +11,3 @@ pub mod runs;
 
 pub use drifts::{Pace, drift, drift_serial};
 pub use runs::bounded_run;
-
-#[cfg(test)]
-mod tests;

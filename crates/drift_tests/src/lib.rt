@@ -3,6 +3,8 @@
 #![tactic(auto)]
 
 #[cfg(test)]
+mod drifts;
+#[cfg(test)]
 mod late;
 #[cfg(test)]
 mod machines;

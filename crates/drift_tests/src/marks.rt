@@ -8,17 +8,15 @@ ghost use Rattle.target_law.specs.Proper.{IsProper};
 ghost use Rattle.lockstep_model.specs.Rules.{owns_of, rules_of, stored_values};
 ghost use Rattle.lockstep_model.specs.Views.{machine_of};
 
-use crate::machines::{STORES, are_same, config_of, image_of, image_of_text};
+use crate::machines::{Program, STORES, Setup, are_same, is_lockstep, lockstep, setup_of};
 use checkpoint::Checkpoint;
 use drift_run::{Pace, drift_serial};
 use io_edge::NeverHold;
-use lockstep_model::{Machine, RvTarget, start};
-use slack_base::{Config, GENERATED_MEMORY, OutOfMemory, RawConfig};
+use lockstep_model::{Machine, RvTarget};
+use slack_base::{OutOfMemory, RawConfig};
 use std::alloc::Global;
 use std::process::Abort;
 use std::test::Fail;
-use target_law::run_to;
-use workload_gen::program;
 
 /// How the drift is paced.
 const PACE: Pace = Pace {
@@ -54,34 +52,6 @@ fn drift_away(
     })
 }
 
-/// Two cores that store to one line. At cycle 5 core 0 waits for it, and core 1 asks once more.
-#[test]
-fn a_machine_is_taken_back(rt: HostRuntime) -> Result<(), Fail> {
-    let alloc = rt.alloc();
-    let config = config_of(&rt, 2);
-    let image = image_of(&rt, &config, STORES);
-    let target = RvTarget::make(alloc, config, &image)?;
-    let mut machine = start(alloc, &target, &image)?;
-    run_to(alloc, &target, &mut machine, 5)?;
-    let mut other = start(alloc, &target, &image)?;
-    run_to(alloc, &target, &mut other, 5)?;
-    let Away {
-        checkpoint,
-        mut machine,
-    } = drift_away(alloc, &target, machine, 60)?;
-    assert_eq!(rt; machine.clock, 65);
-    assert!(rt; !are_same(&machine, &other));
-    checkpoint.restore(&target, &mut machine);
-    assert!(rt; are_same(&machine, &other));
-    run_to(alloc, &target, &mut other, 100)?;
-    assert!(rt; !are_same(&machine, &other));
-    Ok(())
-}
-
-/// `lui x8, 1`, loads of lines 256, 257 and 256, and an exit with 0.
-const TWO_LINES: &[u8] =
-    b"lui x8, 1\nlw x5, 0(x8)\nlw x5, 16(x8)\nlw x5, 0(x8)\naddi x17, x0, 93\naddi x10, x0, 0\necall\n";
-
 /// How many sets core 0 has noted, and how many lines bus 0.
 fn noted_in(machine: &Machine) -> Option<(u64, u64)>
     requires { IsMarkedWhole stored_values machine.now }
@@ -91,43 +61,58 @@ fn noted_in(machine: &Machine) -> Option<(u64, u64)>
     Some((core.noted(), bus.noted()))
 }
 
-/// One core, marked before the first cycle. It fills the sets of lines 256 and 257, and the bus sends these two lines.
-#[test]
-fn two_lines_are_noted(rt: HostRuntime) -> Result<(), Fail> {
-    let alloc = rt.alloc();
-    let config = config_of(&rt, 1);
-    let image = image_of_text(&rt, &config, TWO_LINES);
-    let target = RvTarget::make(alloc, config, &image)?;
-    let machine = start(alloc, &target, &image)?;
+/// What comes of a machine that drifted from its mark.
+#[derive(Clone, Copy)]
+struct Returned {
+    /// The clock to which it drifted.
+    clock: u64,
+    /// It wasn't as it was at its mark.
+    away: bool,
+    /// How many sets core 0 had noted, and how many lines bus 0.
+    noted: Option<(u64, u64)>,
+    /// It was taken back to what it was.
+    back: bool,
+    /// It was what it becomes later.
+    later: bool,
+}
+
+/// A machine is marked at a clock, drifts over so many cycles, and is taken back.
+fn take_back(alloc: Global, setup: &Setup, clock: u64, cycles: u64) -> Result<Returned, OutOfMemory>
+    requires { (clock ≤ 1000) × (cycles ≤ 1000) }
+{
+    let machine = lockstep(alloc, setup, clock)?;
     let Away {
         checkpoint,
         mut machine,
-    } = drift_away(alloc, &target, machine, 37)?;
-    assert_eq!(rt; machine.clock, 37);
-    assert_eq!(rt; noted_in(&machine), Some((2, 2)));
-    checkpoint.restore(&target, &mut machine);
-    assert!(rt; are_same(&machine, &start(alloc, &target, &image)?));
-    Ok(())
+    } = drift_away(alloc, &setup.target, machine, cycles)?;
+    let reached = machine.clock;
+    let noted = noted_in(&machine);
+    let away = !is_lockstep(alloc, setup, clock, &machine)?;
+    checkpoint.restore(&setup.target, &mut machine);
+    Ok(Returned {
+        clock: reached,
+        away,
+        noted,
+        back: is_lockstep(alloc, setup, clock, &machine)?,
+        later: is_lockstep(alloc, setup, clock + cycles, &machine)?,
+    })
 }
 
-/// Cores, sets, ways and buses.
-const MACHINES: [(u32, u32, u32, u32); 6] = [
-    (1, 1, 1, 1),
-    (2, 64, 8, 2),
-    (3, 4, 2, 4),
-    (4, 2, 1, 1),
-    (5, 16, 4, 2),
-    (8, 8, 1, 4),
-];
+/// `lui x8, 1`, loads of lines 256, 257 and 256, and an exit with 0.
+const TWO_LINES: Program = Program::Text(
+    b"lui x8, 1\nlw x5, 0(x8)\nlw x5, 16(x8)\nlw x5, 0(x8)\naddi x17, x0, 93\naddi x10, x0, 0\necall\n",
+);
 
-/// Whether a machine with a generated program drifts away from its mark, and comes back to it.
-fn comes_back<R: Abort + AllocGlobal>(
-    rt: &R,
-    seed: u32,
-    machine: &(u32, u32, u32, u32),
-) -> Result<bool, Fail> {
-    let alloc = rt.alloc();
-    let (cores, sets, ways, buses) = *machine;
+/// Cores, sets, ways and buses.
+type Size = (u32, u32, u32, u32);
+
+/// A program, the size of a machine, the clock of its mark, and over how many cycles it drifts.
+type Row = (Program, Size, u64, u64);
+
+/// The machine of a row, and what comes of it.
+fn taken_back<R: Abort + AllocGlobal>(rt: &R, row: &Row) -> Result<Returned, Fail> {
+    let (runs, size, clock, cycles) = row;
+    let (cores, sets, ways, buses) = *size;
     let numbers = RawConfig {
         cores,
         sets,
@@ -135,34 +120,51 @@ fn comes_back<R: Abort + AllocGlobal>(
         buses,
         ..RawConfig::DEFAULT
     };
-    let config = Config::checked(numbers).expect(rt, "a configuration within its bounds");
-    if config.memory < GENERATED_MEMORY {
-        return Ok(false);
-    }
-    let image = program(alloc, seed, &config)?;
-    let target = RvTarget::make(alloc, config, &image)?;
-    let mut machine = start(alloc, &target, &image)?;
-    run_to(alloc, &target, &mut machine, 40)?;
-    let mut other = start(alloc, &target, &image)?;
-    run_to(alloc, &target, &mut other, 40)?;
-    let Away {
-        checkpoint,
-        mut machine,
-    } = drift_away(alloc, &target, machine, 60)?;
-    let away = !are_same(&machine, &other);
-    checkpoint.restore(&target, &mut machine);
-    Ok(away && are_same(&machine, &other))
+    let setup = setup_of(rt, numbers, runs)?;
+    Ok(take_back(rt.alloc(), &setup, (*clock).min(1000), (*cycles).min(1000))?)
 }
 
-/// Generated programs, on machines of all sizes.
+/// A machine that drifted is another one, and is taken back.
+#[rattlefmt::skip]
+const ROWS: [Row; 20] = [
+    // Two cores that store to one line. At cycle 5 core 0 waits for it, and core 1 asks once more.
+    (STORES, (2, 16, 4, 1), 5, 60),
+    // One core, marked before the first cycle. It fills the sets of lines 256 and 257, and the bus sends these two lines.
+    (TWO_LINES, (1, 16, 4, 1), 0, 37),
+    // Generated programs, on machines of all sizes.
+    (Program::Seed(1), (1, 1, 1, 1), 40, 60),
+    (Program::Seed(1), (2, 64, 8, 2), 40, 60),
+    (Program::Seed(1), (3, 4, 2, 4), 40, 60),
+    (Program::Seed(1), (4, 2, 1, 1), 40, 60),
+    (Program::Seed(1), (5, 16, 4, 2), 40, 60),
+    (Program::Seed(1), (8, 8, 1, 4), 40, 60),
+    (Program::Seed(2), (1, 1, 1, 1), 40, 60),
+    (Program::Seed(2), (2, 64, 8, 2), 40, 60),
+    (Program::Seed(2), (3, 4, 2, 4), 40, 60),
+    (Program::Seed(2), (4, 2, 1, 1), 40, 60),
+    (Program::Seed(2), (5, 16, 4, 2), 40, 60),
+    (Program::Seed(2), (8, 8, 1, 4), 40, 60),
+    (Program::Seed(3), (1, 1, 1, 1), 40, 60),
+    (Program::Seed(3), (2, 64, 8, 2), 40, 60),
+    (Program::Seed(3), (3, 4, 2, 4), 40, 60),
+    (Program::Seed(3), (4, 2, 1, 1), 40, 60),
+    (Program::Seed(3), (5, 16, 4, 2), 40, 60),
+    (Program::Seed(3), (8, 8, 1, 4), 40, 60),
+];
+
 #[test]
-fn generated_programs_come_back(rt: HostRuntime) -> Result<(), Fail> {
-    for seed in 1..=3 {
-        for machine in &MACHINES {
-            assert!(rt;
-                comes_back(&rt, seed, machine)?,
-                "program {seed}, {machine:?}"
-            );
+fn machines_are_taken_back(rt: HostRuntime) -> Result<(), Fail> {
+    for (place, row) in ROWS.iter().enumerate() {
+        let found = taken_back(&rt, row)?;
+        let (runs, _, clock, cycles) = row;
+        assert_eq!(rt;
+            found.clock,
+            (*clock).saturating_add(*cycles),
+            "row {place}"
+        );
+        assert!(rt; found.away && found.back && !found.later, "row {place}");
+        if let Program::Text(_) = runs {
+            assert_eq!(rt; found.noted, Some((2, 2)));
         }
     }
     Ok(())

@@ -1,17 +1,19 @@
-//! Drifts in which cores run ahead and the monitors see nothing: the end is that of lockstep.
-use crate::machines::{LOADS, STORES, are_same, config_of, image_of};
-use drive_script::drive;
-use lockstep_model::{RvTarget, start};
-use slack_base::{Step, StepList};
+//! Drifts in given interleavings. Where cores run ahead and the monitors see nothing, the end is that of lockstep.
+
+use crate::drifts::scripted;
+use crate::machines::{LOADS, Program, STORES, cores, setup_of};
+use crate::replays::Verdict;
+use slack_base::{OutOfMemory, Step, StepList};
 use std::alloc::Global;
+use std::process::Abort;
 use std::test::Fail;
-use target_law::run_to;
+use workload_gen::steps;
 
 /// A step, and how often it is taken.
 type Steps = &'static [(Step, u32)];
 
 /// How many cores, the file that they run, over how many cycles, and the steps.
-type Quiet = (u32, &'static [u8], u64, Steps);
+type Quiet = (u32, Program, u64, Steps);
 
 const QUIET: [Quiet; 4] = [
     // No step: finishing alone.
@@ -45,7 +47,7 @@ const QUIET: [Quiet; 4] = [
 ];
 
 /// The steps one by one.
-fn list_of(alloc: Global, steps: Steps) -> Result<StepList, Fail> {
+fn list_of(alloc: Global, steps: Steps) -> Result<StepList, OutOfMemory> {
     let mut list = StepList::new(alloc);
     for (step, times) in steps {
         for _ in 0..*times {
@@ -55,25 +57,38 @@ fn list_of(alloc: Global, steps: Steps) -> Result<StepList, Fail> {
     Ok(list)
 }
 
+/// What is found of a drift in which cores run ahead.
+fn ahead<R: Abort + AllocGlobal>(rt: &R, row: &Quiet) -> Result<Verdict, Fail> {
+    let (count, file, cycles, steps) = row;
+    let setup = setup_of(rt, cores(*count), file)?;
+    let list = list_of(rt.alloc(), steps)?;
+    Ok(scripted(rt.alloc(), &setup, (*cycles).min(1000), &list)?)
+}
+
 #[test]
 fn cores_ahead(rt: HostRuntime) -> Result<(), Fail> {
-    let alloc = rt.alloc();
-    for (cores, file, cycles, steps) in &QUIET {
-        let config = config_of(&rt, *cores);
-        let image = image_of(&rt, &config, file);
-        let target = RvTarget::make(alloc, config, &image)?;
-        let list = list_of(alloc, steps)?;
-        let drifted = drive(
-            alloc,
-            &target,
-            start(alloc, &target, &image)?,
-            *cycles,
-            &list,
-        )?;
-        let mut machine = start(alloc, &target, &image)?;
-        run_to(alloc, &target, &mut machine, *cycles)?;
-        assert!(rt; drifted.seen.is_empty());
-        assert!(rt; are_same(&drifted.end, &machine));
+    for row in &QUIET {
+        let found = ahead(&rt, row)?;
+        assert!(rt; found.quiet && found.exact);
+        assert!(rt; found.replayed && found.whole && found.scanned);
+    }
+    Ok(())
+}
+
+/// What is found of two cores that store to one line in 500 random steps.
+fn at_random<R: Abort + AllocGlobal>(rt: &R, number: u32) -> Result<Verdict, Fail> {
+    let setup = setup_of(rt, cores(2), &STORES)?;
+    let list = steps(rt.alloc(), number, 2, 500)?;
+    Ok(scripted(rt.alloc(), &setup, 100, &list)?)
+}
+
+/// Each is gone through once more.
+#[test]
+fn drifts_of_random_steps(rt: HostRuntime) -> Result<(), Fail> {
+    for number in 1..=32 {
+        let found = at_random(&rt, number)?;
+        assert!(rt; found.replayed && found.whole && found.scanned, "{number}");
+        assert!(rt; !found.quiet, "{number}");
     }
     Ok(())
 }

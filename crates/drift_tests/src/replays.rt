@@ -1,102 +1,177 @@
 //! Drifts, gone through once more by plain code: what each core does alone with the posts that it took, and what the bus does
 //! with the asks in the order in which they were served.
-ghost use Rattle.std.specs.Prelude.{◌≡◌, ◌<◌, Some, IsTrue, OnOk};
-ghost use Rattle.slack_base.specs.Images.{Fits};
+ghost use Rattle.std.specs.Prelude.{◌≡◌, ◌<◌, ◌≤◌, Some, IsTrue, OnOk};
 ghost use Rattle.slack_base.specs.Numbers.{numbers_of};
 ghost use Rattle.bus_model.specs.Asks.{IsAskOf};
 ghost use Rattle.bus_model.specs.Channels.{bus_setting};
 ghost use Rattle.bus_model.specs.Settings.{setting_of};
 
-use crate::machines::{STORES, are_same_channels, are_same_cores, config_of, image_of};
+use crate::machines::{Setup, are_same_channels, are_same_cores, is_lockstep};
 use bus_model::Channel;
-use drive_script::drive;
-use lockstep_model::{Machine, RvTarget, start};
-use slack_base::{Ask, AskList, ClashList, Config, Drift, Image, PostKind, PostList, TOP, Taken};
-use std::process::Abort;
-use std::test::Fail;
-use timed_core::{Code, TimedCore};
+use lockstep_model::{Machine, RvTarget};
+use slack_base::{
+    Ask, AskList, ClashList, Config, Drift, OutOfMemory, PostKind, PostList, TOP, Taken, Violation,
+    ViolationList,
+};
+use std::alloc::Global;
+use target_law::Drifted;
+use timed_core::TimedCore;
 use violation_watch::scan;
-use workload_gen::steps;
 
-const CYCLES: u64 = 100;
+/// The most cycles that are gone through.
+pub const MOST: u64 = 1000;
 
-/// Takes the posts that were taken at a clock, in their order.
-fn take_at<R: Abort>(
-    rt: &R,
-    core: &mut TimedCore,
-    taken: &[Taken],
-    clock: u64,
-) -> Result<(), Fail> {
-    for entry in taken.iter().filter(|entry| entry.clock == clock) {
-        let touched = match entry.post.kind {
-            PostKind::Invalidate => core.touched(&entry.post),
-            _ => 0,
-        };
-        assert_eq!(rt; entry.touched, touched);
-        core.put(entry.post)?;
-    }
-    Ok(())
+/// What is found of a drift.
+#[derive(Clone, Copy)]
+pub struct Verdict {
+    /// Each core alone, and the bus, come to what they are at the end, by what was taken and served.
+    pub replayed: bool,
+    /// It begins at clock 0, has this length, a list of posts for each core, and a clash or none for each ask.
+    pub whole: bool,
+    /// A scan finds what the monitors saw.
+    pub scanned: bool,
+    /// The monitors saw nothing.
+    pub quiet: bool,
+    /// They saw no post that was late.
+    pub in_time: bool,
+    /// Its end is that of lockstep.
+    pub exact: bool,
 }
 
-/// What a core does alone: at each clock it takes its posts and ticks, and last it takes those of the end. It sends the asks
-/// of its number that were served, and comes to the core at the end.
-fn check_core<R: Abort + AllocGlobal>(
-    rt: &R,
-    config: &Config,
-    code: &Code,
-    number: u32,
-    drift: &Drift,
-    end: &TimedCore,
-) -> Result<(), Fail>
-    requires { number < config.now.cores }
+/// What is found of a drift of so many cycles from the start, of a machine with one bus, in which no byte is put on the console.
+pub fn judge(
+    alloc: Global,
+    setup: &Setup,
+    cycles: u64,
+    drifted: &Drifted<RvTarget>,
+) -> Result<Verdict, OutOfMemory>
+    requires { cycles ≤ 1000 }
 {
-    let mut core = TimedCore::new(rt.alloc(), number, config, 0)?;
-    let mut asks = AskList::new(rt.alloc());
-    let taken = drift
-        .sent
-        .get(number as usize)
-        .expect(rt, "a list for each core");
-    for clock in 0..CYCLES {
-        take_at(rt, &mut core, taken.as_slice(), clock)?;
-        core.tick(code, clock, &mut asks)?;
+    let drift = &drifted.drift;
+    let end = &drifted.end;
+    Ok(Verdict {
+        replayed: are_alone(alloc, setup, cycles, drift, end)?
+            && is_served(alloc, setup, drift, end)?,
+        whole: is_whole(setup, cycles, drift),
+        scanned: is_scanned(alloc, &setup.target, drift, &drifted.seen)?,
+        quiet: drifted.seen.is_empty(),
+        in_time: are_in_time(&drifted.seen),
+        exact: is_lockstep(alloc, setup, cycles, end)?,
+    })
+}
+
+/// Whether a drift begins at clock 0, and has this length, a list of posts for each core, and a clash or none for each ask.
+fn is_whole(setup: &Setup, cycles: u64, drift: &Drift) -> bool {
+    drift.start == 0
+        && drift.len == cycles
+        && drift.sent.len() == setup.target.config.cores as usize
+        && drift.clashes.len() == drift.served.len()
+}
+
+/// Whether a scan of a drift finds what the monitors saw.
+fn is_scanned(
+    alloc: Global,
+    target: &RvTarget,
+    drift: &Drift,
+    seen: &ViolationList,
+) -> Result<bool, OutOfMemory> {
+    if drift.clashes.len() != drift.served.len()
+        || drift.start > MOST
+        || drift.len > MOST
+        || drift.sent.len() > 16
+    {
+        return Ok(false);
     }
-    take_at(rt, &mut core, taken.as_slice(), CYCLES)?;
+    let found = scan(alloc, target, drift)?;
+    Ok(found == *seen)
+}
+
+/// Whether no post was late.
+pub fn are_in_time(seen: &ViolationList) -> bool {
+    seen.as_slice().iter().all(|one| matches!(one, Violation::Bus { .. } | Violation::Map { .. }))
+}
+
+/// Takes the posts that were taken at a clock, in their order. Returns whether each touch is the core's just before.
+fn take_at(core: &mut TimedCore, taken: &[Taken], clock: u64) -> Result<bool, OutOfMemory> {
+    let mut touched = true;
+    for entry in taken {
+        if entry.clock == clock {
+            touched &= entry.touched == touch_of(core, entry);
+            core.put(entry.post)?;
+        }
+    }
+    Ok(touched)
+}
+
+/// The touch that is noted of a post: that of an invalidation's set, and 0 of others.
+fn touch_of(core: &TimedCore, entry: &Taken) -> u64 {
+    match entry.post.kind {
+        PostKind::Invalidate => core.touched(&entry.post),
+        _ => 0,
+    }
+}
+
+/// What a core does alone: at each clock it takes its posts and ticks, and last it takes those of the end. Whether it sends the
+/// asks of its number that were served, comes to the core at the end, and each touch is so.
+fn is_alone(
+    alloc: Global,
+    setup: &Setup,
+    cycles: u64,
+    drift: &Drift,
+    taken: &[Taken],
+    end: &TimedCore,
+) -> Result<bool, OutOfMemory>
+    requires { cycles ≤ 1000 }
+{
+    let number = end.number();
+    if number >= setup.target.config.cores {
+        return Ok(false);
+    }
+    let mut core = TimedCore::new(alloc, number, &setup.target.config, setup.image.entry)?;
+    let mut asks = AskList::new(alloc);
+    let mut touched = true;
+    for clock in 0..cycles {
+        touched &= take_at(&mut core, taken, clock)?;
+        core.tick(&setup.target.code, clock, &mut asks)?;
+    }
+    touched &= take_at(&mut core, taken, cycles)?;
+    Ok(
+        touched
+            && are_clocks(taken, cycles)
+            && are_own(drift, number, &asks)
+            && are_same_cores(&core, end),
+    )
+}
+
+/// Whether the asks of a number that were served are these.
+fn are_own(drift: &Drift, number: u32, asks: &AskList) -> bool {
     let served = drift.served.as_slice();
     let own = served.iter().filter(|ask| ask.id().core == number);
-    assert!(rt; own.eq(asks.as_slice().iter()));
-    assert!(rt; are_same_cores(&core, end));
-    assert!(rt; are_clocks(taken.as_slice()));
-    Ok(())
+    own.eq(asks.as_slice().iter())
 }
 
-/// A drift of a machine with one bus, in which no byte is put on the console, gone through once more.
-pub fn check<R: Abort + AllocGlobal>(
-    rt: &R,
-    config: &Config,
-    image: &Image,
-    code: &Code,
+/// Whether each core comes alone to what it is at the end.
+fn are_alone(
+    alloc: Global,
+    setup: &Setup,
+    cycles: u64,
     drift: &Drift,
     end: &Machine,
-) -> Result<(), Fail>
-    requires image { Fits config.now.base config.now.memory image.now }
-    requires one { config.now.buses ≡ 1 }
+) -> Result<bool, OutOfMemory>
+    requires { cycles ≤ 1000 }
 {
-    for number in 0..config.cores {
-        let core = end
-            .cores
-            .get(number as usize)
-            .expect(rt, "a core of each number");
-        check_core(rt, config, code, number, drift, core)?;
+    let mut alone = end.cores.len() == drift.sent.len();
+    for (taken, core) in drift.sent.as_slice().iter().zip(end.cores.as_slice()) {
+        alone &= is_alone(alloc, setup, cycles, drift, taken.as_slice(), core)?;
     }
-    let bus = end.chans.get(0).expect(rt, "a bus");
-    check_bus(rt, config, image, drift, bus)
+    Ok(alone)
 }
 
 /// Whether the clocks never fall, and come to the end at most.
-fn are_clocks(taken: &[Taken]) -> bool {
+fn are_clocks(taken: &[Taken], end: u64) -> bool {
     let mut last = 0;
     for entry in taken {
-        if entry.clock < last || entry.clock > CYCLES {
+        if entry.clock < last || entry.clock > end {
             return false;
         }
         last = entry.clock;
@@ -104,96 +179,71 @@ fn are_clocks(taken: &[Taken]) -> bool {
     true
 }
 
-/// What the bus does with the asks, one after another: it sends the posts that the cores took, and tells the clashes.
-fn check_bus<R: Abort + AllocGlobal>(
-    rt: &R,
-    config: &Config,
-    image: &Image,
+/// What the bus does with the asks, one after another: whether it sends the posts that the cores took, tells the clashes, and
+/// comes to the bus at the end.
+fn is_served(
+    alloc: Global,
+    setup: &Setup,
     drift: &Drift,
-    end: &Channel,
-) -> Result<(), Fail>
-    requires image { Fits config.now.base config.now.memory image.now }
-    requires one { config.now.buses ≡ 1 }
-{
-    let mut bus = Channel::bus(rt.alloc(), 0, config, image)?;
-    let mut posts = PostList::new(rt.alloc());
-    let mut clashes = ClashList::new(rt.alloc());
+    end: &Machine,
+) -> Result<bool, OutOfMemory> {
+    let Some(last) = end.chans.get(0) else {
+        return Ok(false);
+    };
+    let config = &setup.target.config;
+    let mut bus = Channel::bus(alloc, 0, config, &setup.image)?;
+    let mut posts = PostList::new(alloc);
+    let mut clashes = ClashList::new(alloc);
     for ask in drift.served.as_slice() {
-        serve_one(rt, config, &mut bus, ask, &mut posts, &mut clashes)?;
+        serve_one(config, &mut bus, ask, &mut posts, &mut clashes)?;
     }
     bus.close();
-    assert!(rt; clashes == drift.clashes);
-    for number in 0..config.cores {
-        let taken = drift
-            .sent
-            .get(number as usize)
-            .expect(rt, "a list for each core");
-        let sent = posts.as_slice().iter().filter(|post| post.to == number);
-        assert!(rt; sent.eq(taken.as_slice().iter().map(|entry| &entry.post)));
-    }
-    assert!(rt; are_same_channels(&bus, end));
-    Ok(())
+    Ok(clashes == drift.clashes && are_taken(drift, &posts) && are_same_channels(&bus, last))
 }
 
-/// Serves an ask, with its clash just before.
-fn serve_one<R: Abort>(
-    rt: &R,
+/// Whether each core took the posts to it, in their order.
+fn are_taken(drift: &Drift, posts: &PostList) -> bool {
+    let mut taken = true;
+    for (number, entries) in drift.sent.as_slice().iter().enumerate() {
+        let sent = posts
+            .as_slice()
+            .iter()
+            .filter(|post| post.to as usize == number);
+        taken &= sent.eq(entries.as_slice().iter().map(|entry| &entry.post));
+    }
+    taken
+}
+
+/// Serves an ask of the bus, with its clash just before. Another one is passed over, so that it lacks a clash.
+fn serve_one(
     config: &Config,
     bus: &mut Channel,
     ask: &Ask,
     posts: &mut PostList,
     clashes: &mut ClashList,
-) -> Result<(), Fail>
-    requires one { config.now.buses ≡ 1 }
+) -> Result<(), OutOfMemory>
     requires setting { bus_setting bus.old.value ≡ Some (setting_of (numbers_of config.now) 0) }
     ensures { OnOk result (bus_setting bus.new.value ≡ bus_setting bus.old.value) }
 {
-    assert!(rt; is_of_bus(config, ask));
+    if !is_of_bus(config, ask) {
+        return Ok(());
+    }
     clashes.push(bus.clash(ask))?;
-    bus.serve(ask, posts)?;
-    Ok(())
+    bus.serve(ask, posts)
 }
 
 /// Whether an ask is for a line of memory, all of which are of the one bus.
 fn is_of_bus(config: &Config, ask: &Ask) -> bool
-    requires { config.now.buses ≡ 1 }
     ensures { IsTrue result → IsAskOf (setting_of (numbers_of config.now) 0) ask.now }
 {
     let id = ask.id();
     match ask.line() {
-        Some(line) => id.core < config.cores && id.cycle <= TOP && line < config.memory / 16,
+        Some(line) => {
+            config.buses == 1
+                && id.core < config.cores
+                && id.cycle <= TOP
+                && line < config.memory / 16
+        }
         None => false,
     }
-}
-
-/// Random steps: those of each number are gone through.
-#[test]
-fn drifts_of_random_steps(rt: HostRuntime) -> Result<(), Fail> {
-    let alloc = rt.alloc();
-    let config = config_of(&rt, 2);
-    let image = image_of(&rt, &config, STORES);
-    let target = RvTarget::make(alloc, config, &image)?;
-    for number in 1..=32 {
-        let list = steps(alloc, number, 2, 500)?;
-        let drifted = drive(
-            alloc,
-            &target,
-            start(alloc, &target, &image)?,
-            CYCLES,
-            &list,
-        )?;
-        check(
-            &rt,
-            &config,
-            &image,
-            &target.code,
-            &drifted.drift,
-            &drifted.end,
-        )?;
-        let drift = &drifted.drift;
-        assert_eq!(rt; drift.clashes.len(), drift.served.len());
-        assert!(rt; scan(alloc, &target, drift)? == drifted.seen);
-        assert!(rt; !drifted.seen.is_empty());
-    }
-    Ok(())
 }

@@ -8,7 +8,7 @@ use Rattle.slack_base.specs.declared.steps.Step.{Step}
 use Rattle.target_law.specs.Cycles.{StateValue, through}
 use Rattle.target_law.specs.Drifts.{IsDrift}
 use Rattle.target_law.specs.Laws.{Laws}
-use Rattle.target_law.specs.Proper.{IsProper, IsPunctual}
+use Rattle.target_law.specs.Proper.{IsProper}
 use Rattle.target_law.specs.Rules.{Rules, Owns}
 use Rattle.target_law.proofs.Serving.{after_ask}
 use Rattle.violation_watch.specs.Complete.{IsLockstep}
@@ -48,7 +48,7 @@ module _ {Inner Chan : Type 0} (rules : Rules Inner Chan) where
           let count : length d.sent ≡ rules.cores = ap (λ (x : Drift). length x.sent) drift_is ∙ length-map last.lanes (λ lane. lane.taken) ∙ here.count in
           omega arith
 
-      pub exact_of : IsPunctual s → scan_of rules d ≡ [] → IsLockstep rules s d e
-      exact_of punctual quiet =
+      pub exact_of : scan_of rules d ≡ [] → IsLockstep rules s d e
+      exact_of quiet =
           let clock : e.clock ≡ s.clock + k = drift_of.clock ∙ ap (λ (x : Drift). x.start + x.len) drift_is in
-          complete rules owns laws s d e proper punctual drift_of (omega arith) quiet
+          complete rules owns laws s d e proper drift_of (omega arith) quiet

@@ -7,7 +7,7 @@ use Rattle.slack_base.specs.declared.steps.Step.{Step}
 use Rattle.slack_base.specs.Inboxes.{CoreValue}
 use Rattle.target_law.specs.Cycles.{StateValue}
 use Rattle.target_law.specs.Drifts.{IsDrift}
-use Rattle.target_law.specs.Proper.{IsProper, IsPunctual}
+use Rattle.target_law.specs.Proper.{IsProper}
 use Rattle.target_law.specs.Rules.{Rules, Owns}
 use Rattle.violation_watch.specs.Complete.{IsLockstep}
 use Rattle.drive_script.specs.Finishing.{Finishes}
@@ -42,9 +42,9 @@ module _ {Inner Chan : Type 0} (rules : Rules Inner Chan) where
   abbrev pub IsScriptOf : List Step → (k : ℕ) → StateValue Inner Chan → Drift → StateValue Inner Chan → Type 0
   IsScriptOf steps k s d e = IsScript s k steps d e
 
-  -- where no post was late at the start and nothing was seen, the drift ended as lockstep does, and served its asks
+  -- where nothing was seen, the drift ended as lockstep does, and served its asks
   abbrev pub IsExactIfQuiet : (s : StateValue Inner Chan) → Drift → (seen : List Violation) → (e : StateValue Inner Chan) → Type 0
-  IsExactIfQuiet s d seen e = IsPunctual s → seen ≡ [] → IsLockstep rules s d e
+  IsExactIfQuiet s d seen e = seen ≡ [] → IsLockstep rules s d e
 
   -- an interleaving has one drift and one end
   abbrev pub AllOneScript : Type 0

@@ -36,7 +36,7 @@ pub fn drive<T: Target>(
     ensures drift { IfOk result (λ r. IsDrift (T.rules target.now) (state_of T.values state) r.drift (state_of T.values r.end)) }
     ensures proper { IfOk result (λ r. IsProper (T.rules target.now) (T.owns target.now) (state_of T.values r.end)) }
     ensures seen { IfOk result (λ r. r.seen ≡ scan_of (T.rules target.now) r.drift) }
-    // Where no post was late at the start and nothing was seen, the end is lockstep's, and so are the asks, each once.
+    // Where nothing was seen, the end is lockstep's, and so are the asks, each once.
     ensures exact { IfOk result (λ r. IsExactIfQuiet (T.rules target.now) (state_of T.values state) r.drift r.seen (state_of T.values r.end)) }
 {
     let start = state.clock;

@@ -12,6 +12,3 @@ pub mod worlds;
 pub use drives::drive;
 pub use lanes::Lane;
 pub use runs::script_run;
-
-#[cfg(test)]
-mod tests;

@@ -77,6 +77,3 @@ fn layout_of(bytes: &[u8], config: &Config) -> Result<Layout, ImageFault>
     }
     Err(ImageFault::Magic)
 }
-
-#[cfg(test)]
-mod tests;

@@ -8,7 +8,7 @@ ghost use Rattle.target_law.specs.Proper.{IsProper, IsPunctual};
 ghost use Rattle.target_law.specs.Runs.{Ends, IsExact, IsExactEnd};
 ghost use Rattle.target_law.specs.Views.{state_of};
 ghost use Rattle.drive_script.specs.Scripts.{IsScriptOf};
-ghost use Rattle.pacing.specs.Exact.{IsExactIfShort};
+ghost use Rattle.pacing.specs.Exact.{IsExactIfQuiet, IsQuietIfShort};
 ghost use Rattle.pacing.specs.QuantumRuns.{IsQuantumRun};
 ghost use Rattle.drift_run.specs.BoundedRuns.{IsBoundedRun};
 ghost use Rattle.image_run.specs.Ends.{IsCountedIn, IsExactIn, IsQuietIn, IsRunFrom, RunsBy};
@@ -129,7 +129,8 @@ pub fn run_quantum<R: Threads + Sync, T: Target + Sync>(
     requires quantum { 1 ≤ quantum }
     requires proper { IsProper (T.rules target.now) (T.owns target.now) (state_of T.values state) }
     ensures ends { IfOk result (λ r. IsQuantumRun (T.rules target.now) quantum interval limit (state_of T.values state) r.notes (state_of T.values r.end)) }
-    ensures exact { IfOk result (λ r. IsExactIfShort (T.rules target.now) interval limit quantum (state_of T.values state) r.notes (state_of T.values r.end)) }
+    ensures exact { IfOk result (λ r. IsExactIfQuiet (T.rules target.now) interval limit (state_of T.values state) r.notes (state_of T.values r.end)) }
+    ensures short { IfOk result (λ r. IsQuietIfShort (T.rules target.now) interval limit quantum (state_of T.values state) r.notes (state_of T.values r.end)) }
     ensures counted { IfOk result (λ r. state.clock + sum_by cycles_of r.notes ≡ r.end.clock) }
     ensures low { IfOk result (λ r. r.end.clock ≤ limit) }
     ensures proper { IfOk result (λ r. IsProper (T.rules target.now) (T.owns target.now) (state_of T.values r.end)) }

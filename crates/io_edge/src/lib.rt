@@ -16,6 +16,3 @@ pub use std_streams::{StdSink, StdSource};
 pub use stop_gates::{Stop, StopGate, StopList};
 pub use streams::{CallList, Failed, Sink, Source};
 pub use whole::{ReadAllError, read_all, write_all};
-
-#[cfg(test)]
-mod tests;

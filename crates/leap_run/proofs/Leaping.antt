@@ -49,7 +49,7 @@ module _ {Inner Chan : Type 0} (rules : Rules Inner Chan) where
 
   module _ (owns : Owns Inner Chan) (laws : Laws rules owns) where
     pub all_leaps : AllLeaps rules owns
-    all_leaps k s asks some start fresh top are =
+    all_leaps k s asks some start top are =
         let w = pieced rules k asks (begun s) in
         let one : IsPiece rules k (begun s) w = record {
           asks = asks;
@@ -60,4 +60,4 @@ module _ {Inner Chan : Type 0} (rules : Rules Inner Chan) where
         let drift = pieces_drift rules owns laws s k k (history s.clock k w) (closed rules w) start top (in_one rules owns laws k s w some one) in
         let at = clock_piece rules k (begun s) w one in
         let quiet = one_quiet rules owns laws k s w some start top one are.soon in
-        sym (closed_leap k s asks) ∙ (complete rules owns laws s (history s.clock k w) (closed rules w) start fresh drift.drift (omega arith) quiet).end
+        sym (closed_leap k s asks) ∙ (complete rules owns laws s (history s.clock k w) (closed rules w) start drift.drift (omega arith) quiet).end

@@ -114,7 +114,7 @@ module _ {Inner Chan C D : Type 0} (rules : Rules Inner Chan) (owns : Owns Inner
         let are = of_leap sent [] own (subst (λ xs. IsPermutation xs []) (sym none) no_moves) tt in
         let shut : map W chans ≡ map rules.close (map W chans) = sym (map-closed rules.close (map W chans) is.closed) in
         let same : record { clock = end; cores = map V now; chans = map W chans } ≡ leapt rules k [] first = λ i. record { clock = long i; cores = now_are i; chans = shut i } in
-        same ∙ all_leaps rules owns laws k first [] (omega arith) is fresh (omega arith) are
+        same ∙ all_leaps rules owns laws k first [] (omega arith) is (omega arith) are
 
     -- what was sent is served and answered
     pub after_exchange : (after : List C) (closed : List D) → IsExchanged rules sent (map V now) (map W chans) (map V after) (map W closed)
@@ -126,4 +126,4 @@ module _ {Inner Chan C D : Type 0} (rules : Rules Inner Chan) (owns : Owns Inner
         let are = of_leap sent asks own ex.same (rising_sorted sent asks ex.same apart ex.sorted) in
         let cores_are : map V after ≡ delivered (advanced rules from k (map V cores)) (through rules (map W chans) asks).posts = ex.cores_are ∙ ap (λ xs. delivered xs (through rules (map W chans) asks).posts) now_are in
         let same : record { clock = end; cores = map V after; chans = map W closed } ≡ leapt rules k asks first = λ i. record { clock = long i; cores = cores_are i; chans = ex.chans_are i } in
-        same ∙ all_leaps rules owns laws k first asks (omega arith) is fresh (omega arith) are
+        same ∙ all_leaps rules owns laws k first asks (omega arith) is (omega arith) are

@@ -10,6 +10,3 @@ mod sweeps;
 
 pub use laws::law_of_leaps;
 pub use runs::{run, run_to};
-
-#[cfg(test)]
-mod tests;

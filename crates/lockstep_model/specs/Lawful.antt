@@ -186,7 +186,7 @@ module _ (config : RawConfig) (code : CodeValue) (machine : IsMachine config cod
   commutes chan asks x is =
       let place = channel_of config.buses x in
       let free : clash (bus_served_all chan asks).0 x ≡ None = ap (λ (s : ChannelValue × List Post). clash s.0 x) (sym (same_all chan asks)) ∙ is.free in
-      let like = inserts chan asks x is.since.rising (closed_all chan asks is.since.closed)
+      let like = inserts chan asks x is.rising (closed_all chan asks is.since.closed)
       (apart_above config place chan x asks (set_at place chan is.since.own) is.since.here is.lines) free in
       let last = same_all chan (asks ++ x ∷ []) in
       let placed = same_all chan (inserted x asks) in

@@ -9,6 +9,3 @@ pub mod serving;
 pub mod turns;
 
 pub use managers::{Desk, Manager};
-
-#[cfg(test)]
-mod tests;

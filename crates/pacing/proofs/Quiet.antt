@@ -100,7 +100,6 @@ module _ {Inner Chan : Type 0} (rules : Rules Inner Chan) (owns : Owns Inner Cha
             closed = both.1;
             proper = each_filter p (IsProperAsk rules) earlier proper;
             here = each_weaker (λ y e. eq_of (rules.channel_of y) place e) mine (each_passes p earlier);
-            rising = pairwise_filter p (λ y z. IsAbove z y) earlier rising;
           };
           proper = own;
           above = each_filter p (λ y. IsAbove x y) earlier above;

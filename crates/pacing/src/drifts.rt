@@ -4,6 +4,7 @@ ghost use Rattle.slack_base.specs.declared.bounds.TheConstants.{TOP};
 ghost use Rattle.target_law.specs.Proper.{IsProper};
 ghost use Rattle.target_law.specs.Views.{state_of};
 ghost use Rattle.violation_watch.specs.Scan.{scan_of};
+ghost use Rattle.drive_script.specs.Scripts.{IsExactIfQuiet};
 ghost use Rattle.pacing.specs.Laws.{IsProperDrift};
 ghost use Rattle.pacing.specs.Pieces.{IsPieces};
 
@@ -33,6 +34,8 @@ pub fn quantum_drift<R: Threads + Sync, T: Target + Sync>(
     // The history is that of a drift from the state to the end.
     ensures drift { IfOk result (λ r. IsProperDrift (T.rules target.now) (T.owns target.now) (state_of T.values state) r.drift (state_of T.values r.end)) }
     ensures seen { IfOk result (λ r. r.seen ≡ scan_of (T.rules target.now) r.drift) }
+    // Where nothing was seen, the end is lockstep's, and so are the asks, each once.
+    ensures exact { IfOk result (λ r. IsExactIfQuiet (T.rules target.now) (state_of T.values state) r.drift r.seen (state_of T.values r.end)) }
 {
     let start = state.clock;
     let mut underway = begin(alloc, target, state)?;

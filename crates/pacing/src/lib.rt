@@ -12,6 +12,3 @@ pub mod underway;
 
 pub use drifts::quantum_drift;
 pub use runs::quantum_run;
-
-#[cfg(test)]
-mod tests;

@@ -3,7 +3,7 @@ ghost use Rattle.std.specs.Prelude.{◌≤◌, IfOk};
 ghost use Rattle.slack_base.specs.declared.bounds.TheConstants.{TOP};
 ghost use Rattle.target_law.specs.Proper.{IsProper};
 ghost use Rattle.target_law.specs.Views.{state_of};
-ghost use Rattle.pacing.specs.Exact.{IsExactIfShort};
+ghost use Rattle.pacing.specs.Exact.{IsExactIfQuiet, IsQuietIfShort};
 ghost use Rattle.pacing.specs.QuantumRuns.{IsQuantumRun};
 
 use crate::drifts::quantum_drift;
@@ -32,8 +32,10 @@ pub fn quantum_run<R: Threads + Sync, T: Target + Sync>(
     // Each interval is the drift of its pieces.
     ensures runs { IfOk result (λ r. IsQuantumRun (T.rules target.now) quantum interval limit (state_of T.values state) r.notes (state_of T.values r.end)) }
     ensures proper { IfOk result (λ r. IsProper (T.rules target.now) (T.owns target.now) (state_of T.values r.end)) }
-    // Where pieces are no longer than the lookahead, the run is as if it were cycle by cycle, and nothing is recorded.
-    ensures exact { IfOk result (λ r. IsExactIfShort (T.rules target.now) interval limit quantum (state_of T.values state) r.notes (state_of T.values r.end)) }
+    // Where nothing is recorded, the run is as if it were cycle by cycle, and each interval served lockstep's asks.
+    ensures exact { IfOk result (λ r. IsExactIfQuiet (T.rules target.now) interval limit (state_of T.values state) r.notes (state_of T.values r.end)) }
+    // Where pieces are no longer than the lookahead, nothing is recorded.
+    ensures short { IfOk result (λ r. IsQuietIfShort (T.rules target.now) interval limit quantum (state_of T.values state) r.notes (state_of T.values r.end)) }
 {
     let mut now = state;
     let mut notes = NoteList::new(alloc);

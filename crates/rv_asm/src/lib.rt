@@ -13,7 +13,5 @@ mod operands;
 mod operations;
 mod registers;
 mod tables;
-#[cfg(test)]
-mod tests;
 
 pub use assembling::{AsmError, assemble};

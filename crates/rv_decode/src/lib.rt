@@ -12,8 +12,6 @@ mod mnemonics;
 mod opcodes;
 mod operations;
 mod ranges;
-#[cfg(test)]
-mod tests;
 mod texts;
 
 pub use decoding::decode;

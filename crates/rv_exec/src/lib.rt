@@ -24,6 +24,3 @@ pub use operations::alu;
 pub use stores::store_part;
 pub use targets::target;
 pub use words::word;
-
-#[cfg(test)]
-mod tests;

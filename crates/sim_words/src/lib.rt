@@ -18,6 +18,3 @@ pub use commands::Command;
 pub use orders::Order;
 pub use reading::{WordError, read_words, word_fault};
 pub use values::{Format, Mode};
-
-#[cfg(test)]
-mod tests;

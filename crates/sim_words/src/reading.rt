@@ -13,12 +13,9 @@ use crate::orders::Order;
 use crate::pairs::settings_in;
 use crate::settings::Settings;
 use crate::steps::steps_of;
-use slack_base::{Arg, Config, ConfigFault, OutOfMemory, RawConfig, WordFault};
+use slack_base::{Arg, Config, ConfigFault, GENERATED_MEMORY, OutOfMemory, RawConfig, WordFault};
 use std::alloc::Global;
 use thiserror::Error;
-
-/// How many bytes of memory a generated program needs.
-const GENERATED_MEMORY: u32 = 131_072;
 
 /// Why command words were not read.
 #[derive(Clone, Copy, Debug, PartialEq, Eq, Error)]

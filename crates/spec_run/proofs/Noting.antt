@@ -6,7 +6,6 @@ use Rattle.slack_base.specs.declared.histories.Violation.{Violation}
 use Rattle.slack_base.specs.declared.notes.Interval.TheVariants.{Kept, Rolled}
 use Rattle.target_law.specs.Cycles.{StateValue, lockstep}
 use Rattle.target_law.specs.Drifts.{IsDrift}
-use Rattle.target_law.specs.Proper.{IsPunctual}
 use Rattle.target_law.specs.Rules.{Rules}
 use Rattle.violation_watch.specs.Scan.{scan_of}
 use Rattle.drive_script.specs.Scripts.{IsExactIfQuiet}
@@ -24,13 +23,13 @@ module _ {Inner Chan : Type 0} (rules : Rules Inner Chan) (holds : Holds) (slack
     pub keeps : KeepsHolds holds rules.cores slack s.clock k d.served
 
   module _ (s : StateValue Inner Chan) (d : Drift) (seen : List Violation) (e : StateValue Inner Chan) (made : IsMade d seen e s) where
-    pub quiet_end : IsPunctual s → seen ≡ [] → e ≡ lockstep rules s k
-    quiet_end fresh none = (made.exact fresh none).end ∙ ap (lockstep rules s) made.len
+    pub quiet_end : seen ≡ [] → e ≡ lockstep rules s k
+    quiet_end none = (made.exact none).end ∙ ap (lockstep rules s) made.len
 
-    pub kept_so : (then : StateValue Inner Chan) → IsPunctual s → seen ≡ [] → then ≡ e → IsSpeculated rules holds slack [] k s (Kept k ∷ []) then
-    kept_so then fresh none same = record {
-      end = same ∙ quiet_end fresh none;
-      noted = kept (not_crossed rules holds slack k s d e made.fits made.len made.keeps (sym made.recorded ∙ none) (made.exact fresh none)) refl;
+    pub kept_so : (then : StateValue Inner Chan) → seen ≡ [] → then ≡ e → IsSpeculated rules holds slack [] k s (Kept k ∷ []) then
+    kept_so then none same = record {
+      end = same ∙ quiet_end none;
+      noted = kept (not_crossed rules holds slack k s d e made.fits made.len made.keeps (sym made.recorded ∙ none) (made.exact none)) refl;
     }
 
     pub rolled_so : (then : StateValue Inner Chan) → seen ≢ [] → then ≡ lockstep rules s k → IsSpeculated rules holds slack [] k s (Rolled k d seen ∷ []) then

@@ -5,6 +5,3 @@ mod intervals;
 pub mod runs;
 
 pub use runs::{Run, Speculated, speculate};
-
-#[cfg(test)]
-mod tests;

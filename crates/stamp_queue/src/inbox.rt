@@ -158,6 +158,3 @@ fn take_first(wheel: &mut Wheel, off_wheel: &mut OffWheel, first: u64, count: us
     }
     off_wheel.take_first()
 }
-
-#[cfg(test)]
-mod tests;

@@ -29,6 +29,3 @@ impl<X: Drop> Receiver<X> {
         self.consumer.pop().ok()
     }
 }
-
-#[cfg(test)]
-mod tests;

@@ -47,6 +47,3 @@ fn ring<X: Drop>(alloc: Global, slots: u32) -> Result<(Sender<X>, Receiver<X>), 
     let (producer, consumer) = RingBuffer::new(alloc, slots as usize)?;
     Ok((Sender::new(alloc, producer), Receiver { consumer }))
 }
-
-#[cfg(test)]
-mod tests;

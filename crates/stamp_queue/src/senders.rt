@@ -65,6 +65,3 @@ impl<X: Drop> Sender<X> {
         }
     }
 }
-
-#[cfg(test)]
-mod tests;

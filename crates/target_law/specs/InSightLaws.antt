@@ -77,7 +77,6 @@ module _ {Inner Chan : Type 0} (rules : Rules Inner Chan) (owns : Owns Inner Cha
     closed = ap (λ (c : Marked Chan). c.value) is.closed;
     proper = is.proper;
     here = is.here;
-    rising = is.rising;
   }
 
   commutes_in_sight : (chan : Marked Chan) (asks : List Ask) (x : Ask) → IsFreeAfter sight own chan asks x → IsCommuting sight chan asks x
@@ -86,6 +85,7 @@ module _ {Inner Chan : Type 0} (rules : Rules Inner Chan) (owns : Owns Inner Cha
       let placed = serves_all chan (inserted x asks) in
       let commuting = laws.commutes chan.value asks x (record {
         since = since_closed _ chan asks is.since;
+        rising = is.rising;
         proper = is.proper;
         other = is.other;
         free = sym (ap (λ (r : Marked Chan × List Post). rules.clash r.0.value x) (serves_all chan asks)) ∙ is.free;

@@ -46,17 +46,17 @@ module _ {Inner Chan : Type 0} (rules : Rules Inner Chan) where
       -- at most one to each core
       pub once : AllPairs (λ p q. p.to ≢ q.to) (rules.serve chan ask).1
 
-    -- a closed channel, and asks of it that were served since then, in the order of their ids
+    -- a closed channel, and asks of it that were served since then, in any order
     pub record AreSinceClosed (place : ℕ) (chan : Chan) (asks : List Ask) : Type 0 where
       pub own : IsChanOf rules owns place chan
       pub closed : rules.close chan ≡ chan
       pub proper : Each (IsProperAsk rules) asks
       pub here : Each (λ ask. rules.channel_of ask ≡ place) asks
-      pub rising : AreRising asks
 
-    -- another ask of the channel that comes after these, out of order, and doesn't clash
+    -- another ask of the channel that comes out of order after these, which came in the order of their ids, and doesn't clash
     pub record IsFreeAfter (chan : Chan) (asks : List Ask) (x : Ask) : Type 0 where
       pub since : AreSinceClosed (rules.channel_of x) chan asks
+      pub rising : AreRising asks
       pub proper : IsProperAsk rules x
       pub other : Each (λ y. id_of y ≢ id_of x) asks
       pub free : rules.clash (served_all rules chan asks).0 x ≡ None

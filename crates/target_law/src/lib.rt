@@ -17,6 +17,3 @@ pub use states::{Bounded, Drifted, State};
 pub use targets::Target;
 pub use ticks::{drift_ticks, replay_ticks};
 pub use trio::{Trio, TrioChan, TrioCore};
-
-#[cfg(test)]
-mod tests;

@@ -109,14 +109,15 @@ module _ {Inner Chan : Type 0} (rules : Rules Inner Chan) where
               (join (perm_before tail.1 law.posts) rest.posts);
         }
 
-    calm_sorted : (before earlier : List Ask) (last : Chan) (asks : List Ask) → AreSinceClosed rules owns place chan before → Perm Ask earlier before → last ≡ (served_all rules chan before).0
+    calm_sorted : (before earlier : List Ask) (last : Chan) (asks : List Ask) → AreSinceClosed rules owns place chan before → AreRising before → Perm Ask earlier before → last ≡ (served_all rules chan before).0
         → Each (IsProperAsk rules) asks → Each (λ x. rules.channel_of x ≡ place) asks → AreDistinct asks → Each (λ x. Each (λ y. id_of y ≢ id_of x) before) asks
         → AreCalm last earlier asks → IsSortedEffect before last asks
-    calm_sorted before earlier last [] since perm e proper here distinct apart calm = record { value = e; posts = perm_of _ _ (append-nil (served_all rules chan before).1) }
-    calm_sorted before earlier last (x ∷ asks) since perm e proper here distinct apart calm =
+    calm_sorted before earlier last [] since rising perm e proper here distinct apart calm = record { value = e; posts = perm_of _ _ (append-nil (served_all rules chan before).1) }
+    calm_sorted before earlier last (x ∷ asks) since rising perm e proper here distinct apart calm =
         let at : AreSinceClosed rules owns (rules.channel_of x) chan before = subst (λ n. AreSinceClosed rules owns n chan before) (sym here.0) since in
         let law = laws.commutes chan before x (record {
           since = at;
+          rising = rising;
           proper = proper.0;
           other = apart.0;
           free = ap (λ v. rules.clash v x) (sym e) ∙ calm.0;
@@ -129,8 +130,8 @@ module _ {Inner Chan : Type 0} (rules : Rules Inner Chan) where
           closed = since.closed;
           proper = insert_each (IsProperAsk rules) x before proper.0 since.proper;
           here = insert_each (λ y. rules.channel_of y ≡ place) x before here.0 since.here;
-          rising = insert_rising x before apart.0 since.rising;
         })
+        (insert_rising x before apart.0 rising)
         (join (perm_back (perm_middle x earlier [])) (join (more x (subst (λ xs. Perm Ask xs before) (sym (append-nil earlier)) perm)) (insert_perm x before)))
         (ap (λ v. (rules.serve v x).0) e ∙ ap (λ r. r.0) (sym (served_all-append chan before (x ∷ []))) ∙ law.value)
         proper.1 here.1 distinct.1
@@ -147,7 +148,7 @@ module _ {Inner Chan : Type 0} (rules : Rules Inner Chan) where
     calm_same asks own closed proper distinct calm =
         let p = λ (x : Ask). rules.channel_of x == place in
         let mine = asks_on rules place asks in
-        let effect = calm_sorted [] [] chan mine (record { own = own; closed = closed; proper = tt; here = tt; rising = tt }) none refl
+        let effect = calm_sorted [] [] chan mine (record { own = own; closed = closed; proper = tt; here = tt }) tt none refl
         (each_filter p (IsProperAsk rules) asks proper) (each_weaker (λ x e. eq_of (rules.channel_of x) place e) mine (each_passes p asks))
         (pairwise_filter p (λ x y. id_of x ≢ id_of y) asks distinct) (each_any (λ x. tt) mine) calm in
         let same : sorted mine ≡ asks_on rules place (sorted asks) = sym (filter-sorted_onto p [] asks tt) in

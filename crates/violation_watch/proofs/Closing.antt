@@ -28,14 +28,13 @@ module _ {Inner Chan : Type 0} (rules : Rules Inner Chan) where
     pub value : rules.close (served_all rules one asks).0 ≡ rules.close (served_all rules other asks).0
 
   module _ (owns : Owns Inner Chan) (laws : Laws rules owns) (place : ℕ) where
-    since_more : (chan : Chan) (before : List Ask) (x : Ask) → AreSinceClosed rules owns place chan before → IsProperAsk rules x → rules.channel_of x ≡ place → IsAfter before x
+    since_more : (chan : Chan) (before : List Ask) (x : Ask) → AreSinceClosed rules owns place chan before → IsProperAsk rules x → rules.channel_of x ≡ place
         → AreSinceClosed rules owns place chan (before ++ x ∷ [])
-    since_more chan before x since proper here after = record {
+    since_more chan before x since proper here = record {
       own = since.own;
       closed = since.closed;
       proper = each_append (IsProperAsk rules) before (x ∷ []) since.proper (proper, tt);
       here = each_append (λ y. rules.channel_of y ≡ place) before (x ∷ []) since.here (here, tt);
-      rising = pairwise_append (λ x y. is_above (id_of y) (id_of x) ≡ true) before (x ∷ []) since.rising (tt, tt) (each_weaker (λ y a. (a, tt)) before after);
     }
 
     alike : (u : Chan) (before : List Ask) (v : Chan) (behind : List Ask) (one other : Chan) (asks : List Ask)
@@ -57,7 +56,7 @@ module _ {Inner Chan : Type 0} (rules : Rules Inner Chan) where
         ∙ ap (λ c. rules.close (rules.serve c x).0) same
         ∙ ap (λ c. rules.close (rules.serve (rules.close c) x).0) is' ∙ law'.value ∙ ap (λ c. rules.close (rules.serve c x).0) (sym is') in
         let rest = alike u (before ++ x ∷ []) v (behind ++ x ∷ []) (rules.serve one x).0 (rules.serve other x).0 asks
-        (since_more u before x since proper.0 here.0 after.0) (since_more v behind x since' proper.0 here.0 after'.0)
+        (since_more u before x since proper.0 here.0) (since_more v behind x since' proper.0 here.0)
         (ap (λ c. (rules.serve c x).0) is ∙ ap (λ r. r.0) (sym (served_all-append rules u before (x ∷ []))))
         (ap (λ c. (rules.serve c x).0) is' ∙ ap (λ r. r.0) (sym (served_all-append rules v behind (x ∷ []))))
         value proper.1 here.1 rising.1
@@ -90,9 +89,8 @@ module _ {Inner Chan : Type 0} (rules : Rules Inner Chan) where
           closed = closed;
           proper = each_filter p (IsProperAsk rules) first proper;
           here = each_weaker (λ x e. eq_of (rules.channel_of x) place e) mine (each_passes p first);
-          rising = pairwise_filter p (λ x y. is_above (id_of y) (id_of x) ≡ true) first rising;
         })
-        (record { own = laws.closes place open' left; closed = laws.closes_once place open' left; proper = tt; here = tt; rising = tt })
+        (record { own = laws.closes place open' left; closed = laws.closes_once place open' left; proper = tt; here = tt })
         refl refl (sym (laws.closes_once place open' left))
         (each_filter p (IsProperAsk rules) rest proper') (each_weaker (λ x e. eq_of (rules.channel_of x) place e) more (each_passes p rest))
         (pairwise_filter p (λ x y. is_above (id_of y) (id_of x) ≡ true) rest rising')

@@ -126,7 +126,7 @@ module _ {Inner Chan : Type 0} (rules : Rules Inner Chan) where
         same_asks = subst (IsPermutation served) sorted_steps.asks (perm_is (sorted_perm served))
 
     pub complete : AllComplete rules owns
-    complete s d e is punctual drift top quiet =
+    complete s d e is drift top quiet =
         let asks_quiet = nothing_left (all_serve_entries rules [] d.clashes d.served) (all_take_entries 0 (d.start + d.len) d.sent) quiet in
         let takes_quiet = nothing_right (all_serve_entries rules [] d.clashes d.served) (all_take_entries 0 (d.start + d.len) d.sent) quiet in
         let takes : Each (AreCalmTakes (s.clock + d.len)) d.sent =

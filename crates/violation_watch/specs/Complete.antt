@@ -5,7 +5,7 @@ use Rattle.slack_base.specs.declared.bounds.TheConstants.{TOP}
 use Rattle.slack_base.specs.declared.histories.Drift.{Drift}
 use Rattle.target_law.specs.Cycles.{StateValue, lockstep, asks}
 use Rattle.target_law.specs.Drifts.{IsDrift}
-use Rattle.target_law.specs.Proper.{IsProper, IsPunctual}
+use Rattle.target_law.specs.Proper.{IsProper}
 use Rattle.target_law.specs.Rules.{Rules, Owns}
 use Rattle.violation_watch.specs.Scan.{scan_of}
 
@@ -17,5 +17,5 @@ module _ {Inner Chan : Type 0} (rules : Rules Inner Chan) where
 
   abbrev pub AllComplete : Owns Inner Chan → Type 0
   AllComplete owns =
-      (s : StateValue Inner Chan) (d : Drift) (e : StateValue Inner Chan) → IsProper rules owns s → IsPunctual s → IsDrift rules s d e → e.clock ≤ TOP
+      (s : StateValue Inner Chan) (d : Drift) (e : StateValue Inner Chan) → IsProper rules owns s → IsDrift rules s d e → e.clock ≤ TOP
       → scan_of rules d ≡ [] → IsLockstep s d e

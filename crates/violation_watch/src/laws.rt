@@ -4,7 +4,7 @@ ghost use Rattle.violation_watch.specs.Watching.{AllWatchesScan};
 
 use target_law::Target;
 
-/// Completeness of the monitors. A drift from a proper and punctual state that ends within the range of clocks, and of
+/// Completeness of the monitors. A drift from a proper state that ends within the range of clocks, and of
 /// which they record nothing, ends as lockstep does after as many cycles, and serves the asks of lockstep, each once.
 pub fn law_of_completeness<T: Target>(_target: &T)
     ensures { AllComplete (T.rules _target.now) (T.owns _target.now) }

@@ -7,6 +7,3 @@ pub mod watches;
 
 pub use scans::scan;
 pub use watches::Watch;
-
-#[cfg(test)]
-mod tests;

@@ -7,8 +7,6 @@ mod interleavings;
 pub mod laws;
 mod programs;
 mod registers;
-#[cfg(test)]
-mod tests;
 
 pub use interleavings::steps;
 pub use programs::program;

@@ -110,6 +110,3 @@ pub(super) fn slot_of(due: u64) -> usize
 {
     (due % 256) as usize
 }
-
-#[cfg(test)]
-mod tests;

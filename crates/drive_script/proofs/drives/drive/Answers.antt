@@ -63,7 +63,7 @@ pub returns-clause-exact : goal.returns-clause-exact
 returns-clause-exact g c =
     let t = c.args.target.now in
     let values = g.T.Target.values in
-    λ punctual quiet. exact_of (g.T.Target.rules t) (state_of values c.args.state) c.args.len c.args.steps.now c.as_slice.result.now
+    λ quiet. exact_of (g.T.Target.rules t) (state_of values c.args.state) c.args.len c.args.steps.now c.as_slice.result.now
     (world_of values c.in_ok-world.world) (world_of values c.step_all.new.world) (world_of values c.finish.new.world) c.in_ok-end.drift (state_of values c.in_ok-end.end)
     c.as_slice.ensures c.in_ok-world.ensures.world c.in_ok-step_all.ensures.world c.in_ok-finish.ensures.world c.in_ok-end.ensures.drift c.in_ok-end.ensures.end
-    (g.T.Target.owns t) (g.met.T.Target.laws t) c.requires.proper c.requires.top punctual (sym c.in_ok-seen.ensures ∙ quiet)
+    (g.T.Target.owns t) (g.met.T.Target.laws t) c.requires.proper c.requires.top (sym c.in_ok-seen.ensures ∙ quiet)

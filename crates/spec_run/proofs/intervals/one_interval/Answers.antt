@@ -25,7 +25,7 @@ returns-then-is_empty-clause-step g c =
     let is = c.in_ok-drifted.ensures in
     let made = subst (IsMade rules holds c.args.pace.now.slack c.args.cycles r.drift r.seen (state_of values r.end)) c.in_ok-checkpoint.ensures.state
     (record { fits = is.drift; len = is.len; recorded = is.seen; exact = is.exact; keeps = is.holds }) in
-    kept_so rules holds c.args.pace.now.slack c.args.cycles s r.drift r.seen (state_of values r.end) made (state_of values c.commit.new.state) c.requires.punctual
+    kept_so rules holds c.args.pace.now.slack c.args.cycles s r.drift r.seen (state_of values r.end) made (state_of values c.commit.new.state)
     (c.is_empty.ensures.0 c.if-is_empty.true) c.commit.ensures.state
 
 pub returns-then-is_empty-clause-punctual : goal.returns-then-is_empty-clause-punctual
@@ -39,7 +39,7 @@ returns-then-is_empty-clause-punctual g c =
     let is = c.in_ok-drifted.ensures in
     let made = subst (IsMade rules holds c.args.pace.now.slack c.args.cycles r.drift r.seen (state_of values r.end)) c.in_ok-checkpoint.ensures.state
     (record { fits = is.drift; len = is.len; recorded = is.seen; exact = is.exact; keeps = is.holds }) in
-    let end = quiet_end rules holds c.args.pace.now.slack c.args.cycles s r.drift r.seen (state_of values r.end) made c.requires.punctual (c.is_empty.ensures.0 c.if-is_empty.true) in
+    let end = quiet_end rules holds c.args.pace.now.slack c.args.cycles s r.drift r.seen (state_of values r.end) made (c.is_empty.ensures.0 c.if-is_empty.true) in
     subst IsPunctual (sym (c.commit.ensures.state ∙ end))
     (punctual_after rules (g.T.Target.owns t) ((g.met.T.Target g.world.𝓛 g.world.𝓜 g.world.𝓡 ((λ s x. x), (λ x. x), (λ x. x), λ x. x)).laws t) c.args.cycles s c.requires.proper c.requires.punctual c.requires.top)
 

@@ -1,5 +1,0 @@
-use Rattle.std.proofs.Common.{◌≡◌, vec_len}
-use Rattle.core_gate.proofs.clock_tables.tests.turns.two_cores_in_turn_stay_in_step.Given as goal
-
-abbrev pub invariant-loop-place : goal.invariant-loop-place
-invariant-loop-place g l = vec_len l.overseer.lows ≡ 2

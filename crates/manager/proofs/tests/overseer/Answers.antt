@@ -1,6 +1,0 @@
-use Rattle.std.proofs.Common.{◌≡◌, ◌∙◌, length, ap}
-use Rattle.std.proofs.lemmas.List.{length-replicate}
-use Rattle.manager.proofs.tests.overseer.Goals as goal
-
-pub returns : goal.returns
-returns c = ap length c.in_ok-overseer.ensures.overseer.3 ∙ length-replicate c.in_ok-table.table.cores c.in_ok-table.table.clock ∙ c.in_ok-table.ensures.of.0

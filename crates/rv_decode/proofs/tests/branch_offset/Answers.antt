@@ -1,5 +1,0 @@
-use Rattle.slack_base.specs.declared.instructions.Instr.TheVariants.{Branch}
-use Rattle.rv_decode.proofs.tests.branch_offset.Goals as goal
-
-pub returns-in_err-offset-clause-branch : goal.returns-in_err-offset-clause-branch
-returns-in_err-offset-clause-branch c = λ op rs1 rs2 offset row. absurd (c.in_err-offset.ensures.none (Branch op rs1 rs2 offset) row)
