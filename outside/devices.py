@@ -4,9 +4,10 @@
     python3 outside/devices.py
 
 A full disk, streams that are closed, a reader that left, a folder as input, a pipe with nothing in it, input without an end and
-a system that has no memory must each be answered by the status and the line that the README says. Then the system refuses threads: all, those from the third
-on, the second, each third. In speculative mode report and status must be those of a run cycle by cycle all the same, and in
-bounded mode the notes must add up. The second part needs a C compiler, and fails where no thread was refused.
+a system that has no memory must each be answered by the status and the line that the README says. Then the system refuses
+threads: all, those from the third on, the second, each third. In speculative mode report and status must be those of a run cycle
+by cycle all the same, and in bounded mode the notes must add up. The second part needs a C compiler, and fails where no thread
+was refused.
 """
 
 import os

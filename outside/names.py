@@ -17,7 +17,7 @@ import sys
 
 from program import TOP
 
-DOCUMENTS = ("README.md", "docs/*.md")
+DOCUMENTS = re.compile(r"(docs/)?[^/]*\.md")
 SOURCES = (".rt", ".antt", ".py", ".c", ".h", ".s", ".S", ".sh", ".toml", ".edit", ".txt", "")
 COMMENTS = {".rt": r"//.*$", ".antt": r"--(?=\s|$).*$", ".c": r"//.*$", ".h": r"//.*$", ".s": r"#.*$"}
 CRATE_FOLDERS = r"crates/(\w+)/(?:src|specs|proofs)/"
@@ -25,6 +25,9 @@ WORD = re.compile(r"(?<![\w$])[A-Za-z_]\w*")
 OPTION = re.compile(r"(?<![\w-])--[a-z][a-z-]*")
 PATH = re.compile(r"(?<![\w@=])[\w./*-]*/[\w./*-]+|[\w*-]+\.(?:rt|antt|py|md|sh|toml|edit|txt|svg)")
 SPAN = re.compile(r"`([^`]+)`")
+# As in **low**, or **one**, **another**; and what may stand between a name and its crate.
+HEADING = re.compile(r"(?:(?:, )?\*\*[^*]*\*\*)+")
+OWNER = re.compile(r"(?:(?:,| and|, and) `[^`]+`)* of (?:crate )?`?(\w+)`?")
 # Spans that begin so are words of the toolchain's, and of others' tools; some names of theirs stand alone.
 FOREIGN_SPANS = re.compile(r"rt\b|rattle|valgrind|rustfmt")
 FOREIGN = set("--no-relax --only --test --incremental arg fffffcb0 lgcc slk2".split())
@@ -73,7 +76,7 @@ class Repository:
             self.crates.setdefault(crate[1], set()).update(words)
 
     def documents(self):
-        return [path for path in self.files if any(path == pattern or fnmatch.fnmatch(path, pattern) and path.count("/") == 1 for pattern in DOCUMENTS)]
+        return [path for path in self.files if DOCUMENTS.fullmatch(path)]
 
     def has_path(self, path):
         """Of a file, of a file without its ending, or of a folder; what is built stands in folders `out`."""
@@ -91,42 +94,46 @@ class Repository:
 
 def owner(repository, line, place):
     """The crate of which the name before this place of a line is said to be, as in `a`, `b` and `c` of `crate`."""
-    found = re.match(r"(?:(?:,| and|, and) `[^`]+`)* of (?:crate )?`?(\w+)`?", line[place:])
-    return {found[1]} if found and found[1] in repository.crates else set()
+    found = OWNER.match(line, place)
+    return {found[1]} & set(repository.crates) if found else set()
 
 
 def section(repository, line, now):
     """The crates on which the README's paragraph is."""
     if re.match(r"\*\*[a-z_]+[,*]", line):
-        return {name for name in re.findall(r"\w+", re.match(r"(?:(?:, )?\*\*[^*]*\*\*)+", line)[0]) if name in repository.crates}
+        return words_in(HEADING.match(line)[0]) & set(repository.crates)
     return now if line.startswith("- ") or not line else set()
 
 
 def missing_in_span(repository, span, crates):
-    """The words of a span that nothing has."""
-    paths = [path for path in PATH.findall(span) if not path.startswith("//") and "://" not in span]
+    """The names of a span that nothing has: a word that stands alone must be of the crates, where some are told."""
+    paths = PATH.findall(span) if "://" not in span else []
     yield from (path for path in paths if path not in EXAMPLES and not repository.has_path(path))
-    rest = OPTION.sub(" ", PATH.sub(" ", span))
     yield from (option for option in OPTION.findall(span) if option not in repository.options | FOREIGN)
-    crates = crates if not re.search(r"\s", span) else set()
-    for word in WORD.findall(rest):
+    if re.search(r"\s", span):
+        crates = set()
+    for word in WORD.findall(OPTION.sub(" ", PATH.sub(" ", span))):
         if not is_placeholder(word) and word not in FOREIGN and not repository.has_word(word, crates):
             yield word
 
 
+def missing_in_block(repository, line):
+    """The names of a line of code that nothing has: words with an underscore, and paths with a folder that aren't written."""
+    yield from (path for path in PATH.findall(line.split(">")[0]) if "/" in path and not repository.has_path(path))
+    yield from (word for word in WORD.findall(PATH.sub(" ", line)) if "_" in word and not repository.has_word(word, set()))
+
+
 def missing_in_line(repository, line, crates):
-    """The names of a line that nothing has: in a block of code only paths and words with an underscore count."""
+    """The names of a line that nothing has."""
     if line.startswith("    "):
-        words = [*PATH.findall(line.split(">")[0]), *(word for word in words_in(PATH.sub(" ", line)) if "_" in word)]
-        return [word for word in words if not (repository.has_path(word) if "/" in word else repository.has_word(word, set()) or "." in word)]
-    found = []
+        yield from missing_in_block(repository, line)
+        return
     for span in SPAN.finditer(line):
         if not span[1].isascii() or FOREIGN_SPANS.match(span[1]):
             continue
-        before = {name for name in words_in(line[: span.start()]) if name in repository.crates}
+        before = words_in(line[: span.start()]) & set(repository.crates)
         own = owner(repository, line, span.end()) or (crates | before if crates else set())
-        found += missing_in_span(repository, span[1], own)
-    return found
+        yield from missing_in_span(repository, span[1], own)
 
 
 def missing(repository, text):

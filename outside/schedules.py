@@ -182,7 +182,8 @@ def main():
     for name in set(TOOLS) - set(tools):
         print(f"skipped: the runs under {name}, which isn't installed")
     seen = try_all(argument(2, 1), rounds(argument(1, 1.0)), tools, os.cpu_count())
-    print(f"{seen['speculative'] + seen['bounded']} runs: {seen['plain']} on all processors, {seen['taskset']} on one, {seen['valgrind']} under valgrind")
+    ways = f"{seen['plain']} on all processors, {seen['taskset']} on one, {seen['valgrind']} under valgrind"
+    print(f"{seen['speculative'] + seen['bounded']} runs: {ways}")
     print(f"{seen['speculative']} in speculative mode: of {seen['speculative intervals']} intervals {seen['rolled']} were rolled back")
     print(f"{seen['bounded']} in bounded mode: of {seen['bounded intervals']} intervals {seen['records']} records")
     require(seen, (*TO_SEE, *needed))

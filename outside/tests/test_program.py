@@ -17,7 +17,12 @@ line core 1 id 20.0.0 due 22 clock 25
 ticks drift 80 replay 40
 """
 SETTING = noted.Setting("speculative", 2, 8, 20, 1000)
-BOUNDED = b"interval 0 bounded 20 bus 0 map 0 line 0 reply 0\ninterval 1 bounded 20 bus 0 map 0 line 0 reply 1\nreply core 0 id 30.0.0 due 33 clock 40\nticks drift 80 replay 0\n"
+BOUNDED = b"""\
+interval 0 bounded 20 bus 0 map 0 line 0 reply 0
+interval 1 bounded 20 bus 0 map 0 line 0 reply 1
+reply core 0 id 30.0.0 due 33 clock 40
+ticks drift 80 replay 0
+"""
 
 
 def is_running(process: int) -> bool:

@@ -43,6 +43,17 @@ class Answers(unittest.TestCase):
                 self.assertFalse(refused_memory.is_right(answer, own))
 
 
+class Tests(unittest.TestCase):
+    def test_where_they_are(self) -> None:
+        for test, name in zip(refused_memory.tests(), refused_memory.TESTS):
+            self.assertTrue(test.words[0].endswith(f"::{name}"))
+            self.assertTrue(test.program.endswith("_tests"))
+
+    def test_one_that_is_not_there(self) -> None:
+        with self.assertRaisesRegex(Wrong, "no test has the name no_such_test"):
+            refused_memory.test_named("no_such_test")
+
+
 @NEEDS_COMPILER
 class Memory(unittest.TestCase):
     def setUp(self) -> None:

@@ -7,12 +7,18 @@ import unittest
 
 import schedules
 
+PROCESSORS = os.cpu_count() or 1
+
 
 class Schedules(unittest.TestCase):
-    def test_runs(self) -> None:
-        tools = [name for name in ("taskset",) if shutil.which(name)]
-        seen = schedules.try_all(1, range(40), tools, os.cpu_count() or 1)
-        schedules.require(seen, (*schedules.TO_SEE, *tools))
+    def test_on_all_processors(self) -> None:
+        seen = schedules.try_all(1, range(24), [], PROCESSORS)
+        schedules.require(seen, (*schedules.TO_SEE, "plain"))
+
+    @unittest.skipUnless(shutil.which("taskset"), "it needs taskset")
+    def test_on_one_processor(self) -> None:
+        seen = schedules.try_all(2, range(24), ["taskset"], PROCESSORS)
+        schedules.require(seen, ("plain", "taskset"))
 
     def test_what_was_never_met(self) -> None:
         with self.assertRaisesRegex(schedules.Wrong, "never met: rolled, valgrind$"):
