@@ -21,7 +21,7 @@ TOP = pathlib.Path(__file__).resolve().parent.parent
 PROGRAM = str(TOP / "crates/slacksim/out/slacksim")
 # Tests that pass whichever allocation of the call that they make is refused.
 TESTS = [
-    ("slacksim", "tests::failures::want_of_memory_under_a_gate"),
+    ("call_tests", "failures::want_of_memory_under_a_gate"),
     ("drift_tests", "serial::a_race_that_is_repeated"),
 ]
 WANT = b"slacksim: out of memory\n"
