@@ -1,17 +1,8 @@
 //! SlackSim: a simulator of small multicore RV32IMA computers.
 #![tactic(auto)]
 
-mod answers;
-mod faults;
-mod inputs;
-mod outputs;
-mod runs;
-mod simulation;
-mod texts;
-
-use faults::fault_text;
 use io_edge::{NeverHold, StdSink, StdSource};
-use simulation::simulate;
+use simulate_call::{fault_text, simulate};
 use slack_base::Arg;
 use std::env::Env;
 use std::io::{ErrorKind, Write};
@@ -65,6 +56,3 @@ fn complain<W: Write>(stderr: &mut W, text: &[u8]) {
     let _ = stderr.write_all(text);
     let _ = stderr.write_all(b"\n");
 }
-
-#[cfg(test)]
-mod tests;
