@@ -22,7 +22,7 @@ returns-in-Quantum-clause-quiet g c =
     let s = state_of values c.args.state in
     let most = lookahead_of (delays_of config) in
     let short : IsTrue (is_exact c.args.mode config) → c.from.result ≤ rules.lookahead =
-        λ exact. subst (λ n. c.from.result ≤ n) (sym c.requires.lookahead)
-            (subst (λ n. n ≤ most) (sym c.from.ensures) (no_more config.quantum most (subst (λ (m : Mode). is_exact m config ≡ true) c.in-Quantum.is exact))) in
+    λ exact. subst (λ n. c.from.result ≤ n) (sym c.requires.lookahead)
+    (subst (λ n. n ≤ most) (sym c.from.ensures) (no_more config.quantum most (subst (λ (m : Mode). is_exact m config ≡ true) c.in-Quantum.is exact))) in
     IfOk-weaker _ (λ r. IsQuietIfShort rules c.from-interval.result c.from-limit.result c.from.result s r.notes (state_of values r.end)) (λ r. IsQuietIn config c.args.mode r.notes)
     (λ r is is_quantum exact. (is (short exact)).quiet) c.run_quantum.ensures.short
