@@ -197,7 +197,10 @@ fn exchange(cache: &mut Cache, line: u32, value: u32) -> Option<u32> {
 
 /// Whether a set holds a line.
 fn is_in(cache: &Cache, set: u32, line: u32) -> bool {
-    cache.find(line).is_some_and(|found| found.set == set)
+    let Some(found) = cache.find(line) else {
+        return false;
+    };
+    found.set == set
 }
 
 /// How many of the lines that the cases bring, the first 576 and the last 64, a set holds.
@@ -209,7 +212,18 @@ fn count_in(cache: &Cache, set: u32) -> usize {
 
 /// Whether a line stands in a set at a place in a state.
 fn stands(cache: &Cache, set: u32, place: usize, line: u32, held: Held) -> bool {
-    cache.find(line).is_some_and(|f| f.set == set && f.place as usize == place && f.held == held)
+    let Some(found) = cache.find(line) else {
+        return false;
+    };
+    found.set == set && found.place as usize == place && found.held == held
+}
+
+/// Whether a line is the most recent of its set.
+fn is_first(cache: &Cache, line: u32) -> bool {
+    let Some(found) = cache.find(line) else {
+        return false;
+    };
+    found.place == 0
 }
 
 /// Whether a set holds these lines in these states, the most recently used first, and no other.
@@ -231,7 +245,7 @@ pub fn take(cache: &mut Cache, step: &Step) -> bool {
         Step::Drops(line, alone, victim) => cache.fill(line, alone, words_of(line)) == victim,
         Step::Takes(line, words) => cache.snoop(line, true) == words,
         Step::Has(set, lines) => has(cache, set, lines),
-        Step::IsFirst(line) => cache.find(line).map(|found| found.place) == Some(0),
+        Step::IsFirst(line) => is_first(cache, line),
         Step::Looks(line, held) => cache.lookup(line) == held,
         Step::Peeks(line, held) => cache.peek(line) == held,
         Step::Finds(line, found) => cache.find(line) == found,

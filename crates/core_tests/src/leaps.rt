@@ -1,6 +1,7 @@
 //! Cycles that are gone over at once, against as many ticks.
 use crate::cores::{Coming, LUI_X8, LW_X5, ONE_LINE, REPLY, code_of, core_of, go_on};
-use slack_base::{AskList, PostKind};
+use mesi_cache::HeldLine;
+use slack_base::{AskList, CoreEnd, Counts, PostKind};
 use std::alloc::Global;
 use std::process::Abort;
 use timed_core::{Code, TimedCore};
@@ -31,6 +32,26 @@ const LEAPS: [Leap; 6] = [
     Leap { name: "a core that never waits", words: &[LUI_X8, MUL_X5, LUI_X8], post: (24, 256, PostKind::Retry), next: 24 },
 ];
 
+/// What the readers tell of a core at the end.
+#[derive(Clone, Copy, PartialEq)]
+struct Told {
+    pc: u32,
+    x5: u32,
+    held: Option<HeldLine>,
+    end: CoreEnd,
+    counts: Counts,
+}
+
+fn what_is_told(core: &TimedCore) -> Told {
+    Told {
+        pc: core.pc(),
+        x5: core.reg(5),
+        held: core.held(256),
+        end: core.end(),
+        counts: core.counts(),
+    }
+}
+
 /// Goes on to the end in two pieces or in one, and gives the cycle after the first of them.
 fn go_on_in_pieces(rt: &impl Abort, core: &mut TimedCore, code: &Code, asks: &mut AskList) -> u64 {
     let end = u64::from(END);
@@ -44,26 +65,34 @@ fn go_on_in_pieces(rt: &impl Abort, core: &mut TimedCore, code: &Code, asks: &mu
     next
 }
 
-/// Whether two cores tell the same.
-fn are_same(a: &TimedCore, b: &TimedCore) -> bool {
-    a.pc() == b.pc()
-        && a.reg(5) == b.reg(5)
-        && a.held(256) == b.held(256)
-        && a.end() == b.end()
-        && a.counts() == b.counts()
+/// What is told of a core that leapt, and the cycle after the first piece.
+fn leapt(
+    rt: &impl Abort,
+    alloc: Global,
+    code: &Code,
+    post: Coming,
+    asks: &mut AskList,
+) -> (Told, u64) {
+    let mut core = core_of(rt, alloc, ONE_LINE, &[post]);
+    let next = go_on_in_pieces(rt, &mut core, code, asks);
+    (what_is_told(&core), next)
+}
+
+/// What is told of a core that ticked.
+fn ticked(rt: &impl Abort, alloc: Global, code: &Code, post: Coming, asks: &mut AskList) -> Told {
+    let mut core = core_of(rt, alloc, ONE_LINE, &[post]);
+    go_on(rt, &mut core, code, asks, 0, END);
+    what_is_told(&core)
 }
 
 /// Whether the first piece of a leap ends where it is to, and both pieces make what as many ticks make.
 fn is_right(rt: &impl Abort, alloc: Global, leap: &Leap) -> bool {
     let code = code_of(rt, alloc, leap.words);
-    let posts = [leap.post];
-    let mut leaping = core_of(rt, alloc, ONE_LINE, &posts);
     let mut asks_of_leaps = AskList::new(alloc);
-    let next = go_on_in_pieces(rt, &mut leaping, &code, &mut asks_of_leaps);
-    let mut ticking = core_of(rt, alloc, ONE_LINE, &posts);
+    let (told, next) = leapt(rt, alloc, &code, leap.post, &mut asks_of_leaps);
     let mut asks = AskList::new(alloc);
-    go_on(rt, &mut ticking, &code, &mut asks, 0, END);
-    next == leap.next && are_same(&leaping, &ticking) && asks_of_leaps == asks
+    let wanted = ticked(rt, alloc, &code, leap.post, &mut asks);
+    next == leap.next && told == wanted && asks_of_leaps.as_slice() == asks.as_slice()
 }
 
 #[test]

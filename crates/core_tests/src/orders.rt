@@ -184,14 +184,19 @@ const IN_COPY: &[Step] = &[Answers(GiveUp(5), Some(5)), Has(0, &[(0, Modified), 
 #[rattlefmt::skip]
 const AT_END: &[Step] = &[Has(0, &[(4, Exclusive), (0, Modified)]), Has(1, &[(5, Exclusive)])];
 
+/// Whether what is done with a cache and with its copy is right at each step.
+fn are_apart(cache: &mut Cache, copied: &mut Cache) -> bool {
+    first_wrong(copied, COPIED).is_none()
+        && first_wrong(cache, AFTER_COPY).is_none()
+        && first_wrong(copied, IN_COPY).is_none()
+        && first_wrong(cache, AT_END).is_none()
+}
+
 /// What happens to a copy doesn't happen to the cache, nor the other way round.
 #[test]
 fn a_copy(rt: HostRuntime) {
     let mut cache = cache_of(&rt, rt.alloc(), (4, 2));
     assert_eq!(rt; first_wrong(&mut cache, BEFORE_COPY), None);
     let mut copied = cache.copy().expect(&rt, "memory for a copy");
-    assert_eq!(rt; first_wrong(&mut copied, COPIED), None);
-    assert_eq!(rt; first_wrong(&mut cache, AFTER_COPY), None);
-    assert_eq!(rt; first_wrong(&mut copied, IN_COPY), None);
-    assert_eq!(rt; first_wrong(&mut cache, AT_END), None);
+    assert!(rt; are_apart(&mut cache, &mut copied));
 }
