@@ -31,6 +31,8 @@ OWNER = re.compile(r"(?:(?:,| and|, and) `[^`]+`)* of (?:crate )?`?(\w+)`?")
 # Spans that begin so are words of the toolchain's, and of others' tools; some names of theirs stand alone.
 FOREIGN_SPANS = re.compile(r"rt\b|rattle|valgrind|rustfmt")
 FOREIGN = set("--no-relax --only --test --incremental arg fffffcb0 lgcc slk2".split())
+# The program's commands, which a text on any crate may name.
+COMMANDS = {"run", "gen", "list", "pack", "asm"}
 # Names that a text gives to what a reader has, or gives as examples.
 EXAMPLES = {"Loading.antt", "Tests.antt"}
 
@@ -113,7 +115,7 @@ def missing_in_span(repository, span, crates):
     if re.search(r"\s", span):
         crates = set()
     for word in WORD.findall(OPTION.sub(" ", PATH.sub(" ", span))):
-        if not is_placeholder(word) and word not in FOREIGN and not repository.has_word(word, crates):
+        if not is_placeholder(word) and word not in FOREIGN | COMMANDS and not repository.has_word(word, crates):
             yield word
 
 
