@@ -24,7 +24,7 @@ use Rattle.violation_watch.specs.Scan.{greatest, asks_of_line, is_of_line, bus_e
 use Rattle.violation_watch.proofs.Channels.{chan_of, asks_on, through-chans, through_chans-append}
 use Rattle.violation_watch.proofs.Ids.{above_back}
 use Rattle.violation_watch.proofs.Peel.{closed_all}
-use Rattle.violation_watch.proofs.Lists.{each_filter, pairwise_filter, pairwise_last, numbered_both, numbered_map_from}
+use Rattle.violation_watch.proofs.Lists.{each_filter, pairwise_last, numbered_both, numbered_map_from}
 use Rattle.pacing.specs.Laws.{AllQuiet}
 use Rattle.pacing.specs.Open.{IsOpen}
 use Rattle.pacing.specs.Pieces.{LaneValue, UnderwayValue, begun, lane_begun, lane_ticked, pieced, history, closed, IsPiece, ByPieces, ended, piece, IsPieces}

@@ -11,7 +11,7 @@ use Rattle.target_law.specs.Numbered.{AllNumbered}
 use Rattle.target_law.specs.Proper.{IsProperAsk, IsChanOf}
 use Rattle.target_law.specs.Rules.{Rules, Owns}
 use Rattle.target_law.specs.Served.{AreRising, served_all, Perm, join}
-use Rattle.target_law.proofs.Lists.{each_weaker, each_append, each_any, each_passes, pairwise_append, numbered_weaker}
+use Rattle.target_law.proofs.Lists.{each_weaker, each_append, each_any, each_passes, numbered_weaker}
 use Rattle.target_law.proofs.Numbers.{eq_of}
 use Rattle.violation_watch.proofs.Calm.{served_all-append}
 use Rattle.violation_watch.proofs.Channels.{asks_on, through-chans, through_posts_perm, chan_of, posts_of}
