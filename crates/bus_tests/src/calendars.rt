@@ -135,12 +135,9 @@ fn rounds_of_asks(rt: HostRuntime) -> Result<(), Fail> {
     Ok(())
 }
 
-fn crosses<X: Send + Drop>() {}
-
-/// What comes into a calendar later leaves its copy as it was. A calendar may go to another thread.
+/// What comes into a calendar later leaves its copy as it was.
 #[test]
 fn a_copy_stands_alone(rt: HostRuntime) -> Result<(), Fail> {
-    crosses::<Calendar>();
     let mut calendar = Calendar::new(rt.alloc());
     assert!(rt; calendar.copy()?.is_empty());
     assert_eq!(rt; calendar.place(id((8, 0)), 8, 0, 3)?, 8);

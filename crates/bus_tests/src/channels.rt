@@ -2,7 +2,7 @@
 ghost use Rattle.std.specs.Prelude.{◌≡◌, ◌<◌, None, IfOk, IfSome, IsTrue, OnOk};
 ghost use Rattle.slack_base.specs.Images.{Fits};
 ghost use Rattle.slack_base.specs.Numbers.{numbers_of};
-ghost use Rattle.bus_model.specs.Asks.{IsAskAt, IsAskOf};
+ghost use Rattle.bus_model.specs.Asks.{IsAskAt, IsAskOf, IsLineAt, IsLineOf};
 ghost use Rattle.bus_model.specs.Channels.{bus_setting};
 ghost use Rattle.bus_model.specs.Settings.{setting_of};
 ghost use Rattle.bus_tests.specs.Playing.{IsPlayed, setting_at};
@@ -14,7 +14,6 @@ use bus_model::{Channel, channel_of};
 use slack_base::{
     Ask, ByteList, Config, Id, Image, OutOfMemory, PostList, RawConfig, Segment, SegmentList, TOP,
 };
-use status_map::EntryView;
 use std::alloc::Global;
 use std::test::Fail;
 
@@ -136,24 +135,31 @@ fn clashes(
     may_serve(bus, config, ask) && channel.clash(ask) == wanted
 }
 
-/// The entry of a line of the bus.
-fn entry_on(channel: &Channel, bus: Option<u32>, config: &Config, line: u32) -> Option<EntryView>
-    requires { bus_setting channel.now.value ≡ setting_at (numbers_of config.now) bus }
+/// Whether a line is one of the bus of a number.
+fn is_line_of(index: u32, config: &Config, line: u32) -> bool
+    ensures { IsTrue result → IsLineOf (setting_of (numbers_of config.now) index) line }
 {
-    let index = bus?;
-    if config.buses == 0 || line % config.buses != index || line >= config.memory / 16 {
-        return None;
+    config.buses != 0 && line % config.buses == index && line < config.memory / 16
+}
+
+/// Whether the channel is a bus that has a line.
+fn has_line(bus: Option<u32>, config: &Config, line: u32) -> bool
+    ensures { IsTrue result → IsLineAt (setting_at (numbers_of config.now) bus) line }
+{
+    match bus {
+        Some(index) => is_line_of(index, config, line),
+        None => false,
     }
-    Some(channel.entry(line))
 }
 
 /// Whether this is the entry of a line, however it is looked up.
 fn has_entry(channel: &Channel, bus: Option<u32>, config: &Config, line: u32, wanted: &View) -> bool
     requires { bus_setting channel.now.value ≡ setting_at (numbers_of config.now) bus }
 {
-    let Some(entry) = entry_on(channel, bus, config, line) else {
+    if !has_line(bus, config, line) {
         return false;
-    };
+    }
+    let entry = channel.entry(line);
     is_view(&entry, wanted) && channel.find_entry(line) == Some(entry)
 }
 

@@ -1,7 +1,7 @@
 //! Asks for one line, with the posts that come of them and the entry that they leave.
-use crate::requests::{Request, Sent, View, are_posts, ask_of, is_view, words_of};
+use crate::requests::{Request, Sent, View, are_posts, ask_of, is_view};
 use crate::stages::STAGES;
-use slack_base::Id;
+use slack_base::{Id, Words};
 use status_map::{Delays, Entry, EntryView, PostBatch};
 
 const DELAYS: Delays = Delays {
@@ -13,11 +13,11 @@ const DELAYS: Delays = Delays {
 /// The core that asks, what it asks, when that is granted its bus, and the posts that come of it.
 pub(crate) type Asked = (u32, Request, u32, &'static [Sent]);
 
-/// The entry of a line that had this word at its front, after some asks: what it is then, and what each of some further
+/// The entry of a line that had these words, after some asks: what it is then, and what each of some further
 /// asks makes of it. Where no entry stands beside an ask, it is as before.
 pub(crate) struct Stage {
     pub(crate) name: &'static str,
-    pub(crate) word: u32,
+    pub(crate) words: Words,
     pub(crate) asked: &'static [Asked],
     pub(crate) view: View,
     pub(crate) rows: &'static [(Asked, Option<View>)],
@@ -63,20 +63,19 @@ fn first_wrong(entry: &Entry, stage: &Stage) -> Option<usize> {
     None
 }
 
-/// The entry of a stage, where it is as is written, and the asks that lead to it too.
-fn entry_at(stage: &Stage) -> Option<Entry> {
-    let mut entry = Entry::idle(words_of(stage.word));
-    if !all_send(&mut entry, stage.asked) || !is_view(&entry.view(), &stage.view) {
-        return None;
-    }
-    Some(entry)
+/// The entry of a stage, and whether it is as is written, with the asks that lead to it.
+fn entry_at(stage: &Stage) -> (Entry, bool) {
+    let mut entry = Entry::idle(stage.words);
+    let sent = all_send(&mut entry, stage.asked);
+    (entry, sent && is_view(&entry.view(), &stage.view))
 }
 
 #[test]
 fn asks_for_a_line(rt: HostRuntime) {
     for stage in &STAGES {
         let name = stage.name;
-        let entry = entry_at(stage).expect(&rt, name);
+        let (entry, holds) = entry_at(stage);
+        assert!(rt; holds, "{name}");
         assert_eq!(rt; first_wrong(&entry, stage), None, "{name}");
     }
 }

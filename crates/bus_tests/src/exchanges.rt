@@ -75,7 +75,7 @@ pub(crate) const STORES: [Exchange; 8] = [
     ((1, 9, 0), ReadOwn(256), &[(1, 11, Retry)]),
     ((1, 11, 0), ReadOwn(256), &[(1, 13, Retry)]),
     ((1, 13, 0), ReadOwn(256), &[(0, 15, SnoopOwn)]),
-    ((0, 15, 0), Flush(256, Some(1)), &[(1, 18, ONE_ALONE)]),
+    ((0, 15, 0), Flush(256, Some(ONE)), &[(1, 18, ONE_ALONE)]),
 ];
 
 /// A line is written back while a snoop for it is on its way.
@@ -84,7 +84,7 @@ pub(crate) const PASSING: [Exchange; 5] = [
     ((0, 1, 0), ReadOwn(256), &[(0, 11, FIRST_ALONE)]),
     ((0, 13, 0), Read(257), &[(0, 23, ZEROS_ALONE)]),
     ((1, 21, 0), Read(256), &[(0, 23, SnoopShare)]),
-    ((0, 23, 0), WriteBack(256, 4096), &[]),
+    ((0, 23, 0), WriteBack(256, PAGE), &[]),
     ((0, 23, 1), Flush(256, None), &[(1, 28, PAGE_SHARED)]),
 ];
 
@@ -93,7 +93,7 @@ pub(crate) const PASSING: [Exchange; 5] = [
 pub(crate) const SHARING: [Exchange; 5] = [
     ((0, 1, 0), Read(511), &[(0, 11, LAST_ALONE)]),
     ((1, 12, 0), Read(511), &[(0, 14, SnoopShare)]),
-    ((0, 14, 0), Flush(511, Some(7)), &[(1, 17, SEVEN_SHARED)]),
+    ((0, 14, 0), Flush(511, Some(SEVEN)), &[(1, 17, SEVEN_SHARED)]),
     ((0, 18, 0), Read(511), &[(0, 28, SEVEN_SHARED)]),
     ((0, 30, 0), ReadOwn(511), &[(1, 32, Invalidate), (0, 40, SEVEN_ALONE)]),
 ];
@@ -120,7 +120,7 @@ pub(crate) const TAKEN: [Exchange; 1] = [((0, 1, 0), ReadOwn(256), &[(0, 11, FIR
 #[rattlefmt::skip]
 pub(crate) const GIVEN_BACK: [Exchange; 3] = [
     ((0, 13, 0), Read(257), &[(0, 23, ZEROS_ALONE)]),
-    ((0, 14, 0), WriteBack(256, 7), &[]),
+    ((0, 14, 0), WriteBack(256, SEVEN), &[]),
     ((1, 14, 0), Read(257), &[(1, 19, Retry)]),
 ];
 

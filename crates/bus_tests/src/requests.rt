@@ -14,14 +14,13 @@ pub(crate) type Sent = (u32, u64, PostKind);
 /// An entry: who holds the line, from which cycle it is settled, and the words that memory has.
 pub(crate) type View = (EntryKind, u64, Words);
 
-/// What a core asks of a line, with the first of the line's words where it sends them, or the byte that it puts on the
-/// console.
+/// What a core asks of a line, with the line's words where it sends them, or the byte that it puts on the console.
 #[derive(Clone, Copy)]
 pub(crate) enum Request {
     Read(u32),
     ReadOwn(u32),
-    WriteBack(u32, u32),
-    Flush(u32, Option<u32>),
+    WriteBack(u32, Words),
+    Flush(u32, Option<Words>),
     Put(u8),
 }
 
@@ -32,11 +31,6 @@ pub(crate) const ZEROS: Words = Words {
     w2: 0,
     w3: 0,
 };
-
-/// A line with this word at its front.
-pub(crate) fn words_of(w0: u32) -> Words {
-    Words { w0, ..ZEROS }
-}
 
 pub(crate) fn id_at(short: &Short) -> Id {
     let (core, cycle, number) = *short;
@@ -53,14 +47,8 @@ pub(crate) fn ask_of(id: Id, request: &Request) -> Ask
     match *request {
         Request::Read(line) => Ask::Read { id, line },
         Request::ReadOwn(line) => Ask::ReadOwn { id, line },
-        Request::WriteBack(line, w0) => {
-            let words = words_of(w0);
-            Ask::WriteBack { id, line, words }
-        }
-        Request::Flush(line, w0) => {
-            let words = w0.map(words_of);
-            Ask::Flush { id, line, words }
-        }
+        Request::WriteBack(line, words) => Ask::WriteBack { id, line, words },
+        Request::Flush(line, words) => Ask::Flush { id, line, words },
         Request::Put(byte) => Ask::Put { id, byte },
     }
 }

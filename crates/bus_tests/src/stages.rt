@@ -71,7 +71,7 @@ const SHARED_OUT: Asked = (1, Read(256), 11, &[(0, 13, SnoopShare)]);
 const TAKEN_OVER: Asked = (1, ReadOwn(256), 11, &[(0, 13, SnoopOwn)]);
 
 /// Core 0 answers with another word: both have the line from cycle 16 on.
-const FLUSHED: Asked = (0, Flush(256, Some(6)), 13, &[(1, 16, SIX_SHARED)]);
+const FLUSHED: Asked = (0, Flush(256, Some(SIX)), 13, &[(1, 16, SIX_SHARED)]);
 
 /// Core 1 waits for the line of core 0, to share it or to own it.
 const ASKED_TO_SHARE: EntryKind = Moving {
@@ -92,25 +92,25 @@ const TAKING: View = (ASKED_TO_GIVE, 11, FIVE);
 
 #[rattlefmt::skip]
 pub(crate) const STAGES: [Stage; 11] = [
-    Stage { name: "an idle line", word: 5, asked: &[], view: (Idle, 0, FIVE), rows: &OF_IDLE },
-    Stage { name: "a line of another", word: 5, asked: &[TAKEN], view: (Owned { core: 0 }, 11, FIVE), rows: &OF_ANOTHER },
-    Stage { name: "an own line", word: 5, asked: &[TAKEN], view: (Owned { core: 0 }, 11, FIVE), rows: &OF_ITS_OWNER },
-    Stage { name: "a shared line", word: 5, asked: &[TAKEN, SHARED_OUT, FLUSHED], view: (Shared { cores: 3 }, 17, SIX), rows: &OF_SHARERS },
-    Stage { name: "a line of all cores", word: 5, asked: &BY_ALL, view: (Shared { cores: 65535 }, 31, SIX), rows: &OF_ALL },
-    Stage { name: "a line to be shared", word: 5, asked: &[TAKEN, SHARED_OUT], view: SHARING, rows: &TO_BE_SHARED },
-    Stage { name: "a line to be owned", word: 5, asked: &[TAKEN, TAKEN_OVER], view: TAKING, rows: &TO_BE_OWNED },
-    Stage { name: "a line on its way to be shared", word: 5, asked: &[TAKEN, SHARED_OUT], view: SHARING, rows: &ON_ITS_WAY },
-    Stage { name: "a line on its way to be owned", word: 5, asked: &[TAKEN, TAKEN_OVER], view: TAKING, rows: &ON_ITS_WAY },
-    Stage { name: "two cores store to one line", word: 0, asked: &STORES, view: (Owned { core: 1 }, 19, SEVEN), rows: &[] },
-    Stage { name: "a write-back passes a snoop", word: 0, asked: &PASSING, view: (Owned { core: 3 }, 51, SEVEN), rows: &[] },
+    Stage { name: "an idle line", words: FIVE, asked: &[], view: (Idle, 0, FIVE), rows: &OF_IDLE },
+    Stage { name: "a line of another", words: FIVE, asked: &[TAKEN], view: (Owned { core: 0 }, 11, FIVE), rows: &OF_ANOTHER },
+    Stage { name: "an own line", words: FIVE, asked: &[TAKEN], view: (Owned { core: 0 }, 11, FIVE), rows: &OF_ITS_OWNER },
+    Stage { name: "a shared line", words: FIVE, asked: &[TAKEN, SHARED_OUT, FLUSHED], view: (Shared { cores: 3 }, 17, SIX), rows: &OF_SHARERS },
+    Stage { name: "a line of all cores", words: FIVE, asked: &BY_ALL, view: (Shared { cores: 65535 }, 31, SIX), rows: &OF_ALL },
+    Stage { name: "a line to be shared", words: FIVE, asked: &[TAKEN, SHARED_OUT], view: SHARING, rows: &TO_BE_SHARED },
+    Stage { name: "a line to be owned", words: FIVE, asked: &[TAKEN, TAKEN_OVER], view: TAKING, rows: &TO_BE_OWNED },
+    Stage { name: "a line on its way to be shared", words: FIVE, asked: &[TAKEN, SHARED_OUT], view: SHARING, rows: &ON_ITS_WAY },
+    Stage { name: "a line on its way to be owned", words: FIVE, asked: &[TAKEN, TAKEN_OVER], view: TAKING, rows: &ON_ITS_WAY },
+    Stage { name: "two cores store to one line", words: ZEROS, asked: &STORES, view: (Owned { core: 1 }, 19, SEVEN), rows: &[] },
+    Stage { name: "a write-back passes a snoop", words: ZEROS, asked: &PASSING, view: (Owned { core: 3 }, 51, SEVEN), rows: &[] },
 ];
 
 #[rattlefmt::skip]
 const OF_IDLE: [(Asked, Option<View>); 5] = [
     ((2, Read(256), 7, &[(2, 17, FIVE_ALONE)]), Some((Owned { core: 2 }, 18, FIVE))),
     ((2, ReadOwn(256), 7, &[(2, 17, FIVE_ALONE)]), Some((Owned { core: 2 }, 18, FIVE))),
-    ((2, WriteBack(256, 9), 50, &[]), None),
-    ((2, Flush(256, Some(9)), 50, &[]), None),
+    ((2, WriteBack(256, NINE), 50, &[]), None),
+    ((2, Flush(256, Some(NINE)), 50, &[]), None),
     ((2, Flush(256, None), 50, &[]), None),
 ];
 
@@ -123,8 +123,8 @@ const OF_ANOTHER: [(Asked, Option<View>); 9] = [
     ((1, ReadOwn(256), 10, &[(1, 12, Retry)]), None),
     ((1, Read(256), 11, &[(0, 13, SnoopShare)]), Some(SHARING)),
     ((1, ReadOwn(256), 11, &[(0, 13, SnoopOwn)]), Some(TAKING)),
-    ((1, WriteBack(256, 9), 50, &[]), None),
-    ((1, Flush(256, Some(9)), 50, &[]), None),
+    ((1, WriteBack(256, NINE), 50, &[]), None),
+    ((1, Flush(256, Some(NINE)), 50, &[]), None),
     ((1, Flush(256, None), 50, &[]), None),
 ];
 
@@ -135,8 +135,8 @@ const OF_ITS_OWNER: [(Asked, Option<View>); 7] = [
     ((0, ReadOwn(256), 10, &[(0, 12, Retry)]), None),
     ((0, Read(256), 11, &[(0, 21, FIVE_ALONE)]), Some((Owned { core: 0 }, 22, FIVE))),
     ((0, ReadOwn(256), 11, &[(0, 21, FIVE_ALONE)]), Some((Owned { core: 0 }, 22, FIVE))),
-    ((0, WriteBack(256, 9), 11, &[]), Some((Idle, 11, NINE))),
-    ((0, Flush(256, Some(9)), 50, &[]), None),
+    ((0, WriteBack(256, NINE), 11, &[]), Some((Idle, 11, NINE))),
+    ((0, Flush(256, Some(NINE)), 50, &[]), None),
     ((0, Flush(256, None), 50, &[]), None),
 ];
 
@@ -147,8 +147,8 @@ const OF_SHARERS: [(Asked, Option<View>); 12] = [
     ((2, Read(256), 1, &[(2, 11, SIX_SHARED)]), Some((Shared { cores: 7 }, 17, SIX))),
     ((2, Read(256), 16, &[(2, 26, SIX_SHARED)]), Some((Shared { cores: 7 }, 27, SIX))),
     ((0, Read(256), 16, &[(0, 26, SIX_SHARED)]), Some((Shared { cores: 3 }, 27, SIX))),
-    ((0, WriteBack(256, 9), 50, &[]), None),
-    ((0, Flush(256, Some(9)), 50, &[]), None),
+    ((0, WriteBack(256, NINE), 50, &[]), None),
+    ((0, Flush(256, Some(NINE)), 50, &[]), None),
     ((0, Flush(256, None), 50, &[]), None),
     ((0, ReadOwn(256), 16, &[(0, 18, Retry)]), None),
     ((1, ReadOwn(256), 16, &[(1, 18, Retry)]), None),
@@ -194,15 +194,15 @@ const OF_ALL: [(Asked, Option<View>); 1] = [
 
 #[rattlefmt::skip]
 const TO_BE_SHARED: [(Asked, Option<View>); 3] = [
-    ((0, WriteBack(256, 9), 13, &[]), Some((ASKED_TO_SHARE, 11, NINE))),
-    ((0, Flush(256, Some(9)), 13, &[(1, 16, NINE_SHARED)]), Some((Shared { cores: 3 }, 17, NINE))),
+    ((0, WriteBack(256, NINE), 13, &[]), Some((ASKED_TO_SHARE, 11, NINE))),
+    ((0, Flush(256, Some(NINE)), 13, &[(1, 16, NINE_SHARED)]), Some((Shared { cores: 3 }, 17, NINE))),
     ((0, Flush(256, None), 13, &[(1, 16, FIVE_SHARED)]), Some((Shared { cores: 2 }, 17, FIVE))),
 ];
 
 #[rattlefmt::skip]
 const TO_BE_OWNED: [(Asked, Option<View>); 3] = [
-    ((0, WriteBack(256, 9), 13, &[]), Some((ASKED_TO_GIVE, 11, NINE))),
-    ((0, Flush(256, Some(9)), 13, &[(1, 16, NINE_ALONE)]), Some((Owned { core: 1 }, 17, NINE))),
+    ((0, WriteBack(256, NINE), 13, &[]), Some((ASKED_TO_GIVE, 11, NINE))),
+    ((0, Flush(256, Some(NINE)), 13, &[(1, 16, NINE_ALONE)]), Some((Owned { core: 1 }, 17, NINE))),
     ((0, Flush(256, None), 13, &[(1, 16, FIVE_ALONE)]), Some((Owned { core: 1 }, 17, FIVE))),
 ];
 
@@ -218,10 +218,10 @@ const ON_ITS_WAY: [(Asked, Option<View>); 15] = [
     ((0, ReadOwn(256), 10, &[(0, 12, Retry)]), None),
     ((1, ReadOwn(256), 10, &[(1, 12, Retry)]), None),
     ((2, ReadOwn(256), 10, &[(2, 12, Retry)]), None),
-    ((1, WriteBack(256, 9), 50, &[]), None),
-    ((2, WriteBack(256, 9), 50, &[]), None),
-    ((1, Flush(256, Some(9)), 50, &[]), None),
-    ((2, Flush(256, Some(9)), 50, &[]), None),
+    ((1, WriteBack(256, NINE), 50, &[]), None),
+    ((2, WriteBack(256, NINE), 50, &[]), None),
+    ((1, Flush(256, Some(NINE)), 50, &[]), None),
+    ((2, Flush(256, Some(NINE)), 50, &[]), None),
     ((1, Flush(256, None), 50, &[]), None),
     ((2, Flush(256, None), 50, &[]), None),
 ];
@@ -233,7 +233,7 @@ const STORES: [Asked; 5] = [
     (1, ReadOwn(256), 3, &[(1, 5, Retry)]),
     (1, ReadOwn(256), 11, &[(1, 13, Retry)]),
     (1, ReadOwn(256), 13, &[(0, 15, SnoopOwn)]),
-    (0, Flush(256, Some(7)), 15, &[(1, 18, SEVEN_ALONE)]),
+    (0, Flush(256, Some(SEVEN)), 15, &[(1, 18, SEVEN_ALONE)]),
 ];
 
 /// A line is written back while a snoop for it is on its way, and two sharers then lose it.
@@ -241,7 +241,7 @@ const STORES: [Asked; 5] = [
 const PASSING: [Asked; 6] = [
     (0, ReadOwn(256), 1, &[(0, 11, ZEROS_ALONE)]),
     (1, Read(256), 21, &[(0, 23, SnoopShare)]),
-    (0, WriteBack(256, 7), 23, &[]),
+    (0, WriteBack(256, SEVEN), 23, &[]),
     (0, Flush(256, None), 25, &[(1, 28, SEVEN_SHARED)]),
     (2, Read(256), 27, &[(2, 37, SEVEN_SHARED)]),
     (3, ReadOwn(256), 40, &[(1, 42, Invalidate), (2, 42, Invalidate), (3, 50, SEVEN_ALONE)]),
