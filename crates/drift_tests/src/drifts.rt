@@ -3,7 +3,7 @@ ghost use Rattle.std.specs.Prelude.{◌≤◌};
 ghost use Rattle.slack_base.specs.declared.bounds.TheConstants.{TOP};
 
 use crate::machines::{Setup, are_same, begun};
-use crate::replays::{Verdict, judge};
+use crate::replays::{Verdict, is_scanned, is_whole, judge};
 use drift_run::{Pace, drift, drift_serial};
 use drive_script::drive;
 use io_edge::{Stop, StopGate, StopList};
@@ -66,7 +66,8 @@ pub fn in_turn(
     judge(alloc, setup, cycles, &drifted)
 }
 
-/// Whether two drifts on one thread are the same, with the same monitors and ends.
+/// Whether two drifts on one thread are the same, with what their monitors saw and their ends, and the first is whole, and was
+/// seen as a scan sees it.
 pub fn is_repeated(
     alloc: Global,
     setup: &Setup,
@@ -80,11 +81,11 @@ pub fn is_repeated(
 {
     let first = drifted_in_turn(alloc, setup, cycles, pace, gate)?;
     let second = drifted_in_turn(alloc, setup, cycles, pace, gate)?;
-    Ok(
-        first.drift == second.drift
-            && first.seen == second.seen
-            && are_same(&first.end, &second.end),
-    )
+    let same = first.drift == second.drift
+        && first.seen == second.seen
+        && are_same(&first.end, &second.end);
+    let scanned = is_scanned(alloc, &setup.target, &first)?;
+    Ok(same && scanned && is_whole(setup, cycles, &first.drift))
 }
 
 /// What is found of a drift by threads.

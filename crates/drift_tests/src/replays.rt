@@ -19,7 +19,7 @@ use timed_core::TimedCore;
 use violation_watch::scan;
 
 /// The most cycles that are gone through.
-pub const MOST: u64 = 1000;
+const MOST: u64 = 1000;
 
 /// What is found of a drift.
 #[derive(Clone, Copy)]
@@ -53,7 +53,7 @@ pub fn judge(
         replayed: are_alone(alloc, setup, cycles, drift, end)?
             && is_served(alloc, setup, drift, end)?,
         whole: is_whole(setup, cycles, drift),
-        scanned: is_scanned(alloc, &setup.target, drift, &drifted.seen)?,
+        scanned: is_scanned(alloc, &setup.target, drifted)?,
         quiet: drifted.seen.is_empty(),
         in_time: are_in_time(&drifted.seen),
         exact: is_lockstep(alloc, setup, cycles, end)?,
@@ -61,7 +61,7 @@ pub fn judge(
 }
 
 /// Whether a drift begins at clock 0, and has this length, a list of posts for each core, and a clash or none for each ask.
-fn is_whole(setup: &Setup, cycles: u64, drift: &Drift) -> bool {
+pub fn is_whole(setup: &Setup, cycles: u64, drift: &Drift) -> bool {
     drift.start == 0
         && drift.len == cycles
         && drift.sent.len() == setup.target.config.cores as usize
@@ -69,12 +69,12 @@ fn is_whole(setup: &Setup, cycles: u64, drift: &Drift) -> bool {
 }
 
 /// Whether a scan of a drift finds what the monitors saw.
-fn is_scanned(
+pub fn is_scanned(
     alloc: Global,
     target: &RvTarget,
-    drift: &Drift,
-    seen: &ViolationList,
+    drifted: &Drifted<RvTarget>,
 ) -> Result<bool, OutOfMemory> {
+    let drift = &drifted.drift;
     if drift.clashes.len() != drift.served.len()
         || drift.start > MOST
         || drift.len > MOST
@@ -83,7 +83,7 @@ fn is_scanned(
         return Ok(false);
     }
     let found = scan(alloc, target, drift)?;
-    Ok(found == *seen)
+    Ok(found == drifted.seen)
 }
 
 /// Whether no post was late.
