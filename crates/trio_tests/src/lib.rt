@@ -23,6 +23,8 @@ mod managers;
 #[cfg(test)]
 mod marks;
 #[cfg(test)]
+mod modes;
+#[cfg(test)]
 mod pieces;
 #[cfg(test)]
 mod speculation;
