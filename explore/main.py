@@ -9,7 +9,7 @@ from explore.faults import Refused
 from explore.points import option_names, points_of
 from explore.programs import Program
 from explore.progress import progress
-from explore.results import STUDY, Results, Row, Table, held, is_final, read_table, write_whole
+from explore.results import STUDY, Results, Row, Table, held, is_final, read_tables, write_whole
 from explore.studies import read_study
 
 TOP = Path(__file__).resolve().parent.parent
@@ -45,9 +45,9 @@ def _parser() -> argparse.ArgumentParser:
     run.add_argument("--program", type=Path, default=PROGRAM, metavar="PATH", help="the built program (default: %(default)s)")
     run.add_argument("--jobs", type=_count, default=runs.processors(), metavar="N", help="points at once here (default: one for each processor)")
     run.add_argument("--scheduler", metavar="ADDRESS", help="run the points on the Dask cluster of this scheduler, as tcp://host:8786")
-    plot = commands.add_parser("plot", help="draw a study's results")
+    plot = commands.add_parser("plot", help="draw the results of a study, or of several")
     plot.set_defaults(command=plot_results)
-    plot.add_argument("results", type=Path, help="the folder of the results")
+    plot.add_argument("results", type=Path, nargs="+", metavar="FOLDER", help="the folder of the results, or several, told apart by the column folder")
     plot.add_argument("--x", required=True, metavar="COLUMN", help="what goes to the right")
     up = "what goes up: a column, or a ratio, as misses/accesses or cycles@cores=1/cycles"
     plot.add_argument("--y", required=True, metavar="TERM", help=up)
@@ -108,15 +108,15 @@ def _follow(results: Results, batches: runs.Batches, total: int, left: int) -> i
 
 def plot_results(args: argparse.Namespace) -> int:
     """Draws a picture of a table."""
-    form, table = pictures.form_of(args.output), read_table(args.results)
+    form, table = pictures.form_of(args.output), read_tables(args.results)
     terms.named(args.x, table.columns(), "column")
     if args.lines:
         terms.named(args.lines, table.columns(), "column")
     rows = _chosen(table, args.where)
     y = terms.read_term(args.y, table)
     lines = terms.lines_of(table, rows, args.x, y, args.lines)
-    name = read_study(args.results / STUDY).source.name
-    title = ", ".join([name, *(f"{name} = {value}" for name, value in args.where)])
+    names = dict.fromkeys(read_study(folder / STUDY).source.name for folder in args.results)
+    title = ", ".join([*names, *(f"{name} = {value}" for name, value in args.where)])
     axes = pictures.Axes(title, args.x, y, args.lines, args.log_x, args.log_y)
     write_whole(args.output, pictures.draw(axes, lines, form))
     return 0

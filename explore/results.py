@@ -22,6 +22,8 @@ Row = dict[str, str]
 
 # The columns that every table has, behind those of the options and at its end.
 FIRST, LAST = ("status", "cause", "cycles"), ("image", "program")
+# The option that several tables are told apart by.
+FOLDER = "folder"
 # The report's lists, with the name of a part of each.
 PARTS = {"cores": "core", "buses": "bus"}
 # Numbers of a part that are no counts, so that their sum would say nothing.
@@ -131,6 +133,18 @@ def read_table(folder: Path) -> Table:
     for row in rows:
         row.setdefault("status", "")
     return Table(columns[: columns.index(FIRST[0])], rows)
+
+
+def read_tables(folders: list[Path]) -> Table:
+    """The table in a folder; or those in several as one, in which a row's first option is the name of its folder."""
+    if len(folders) == 1:
+        return read_table(folders[0])
+    names = [folder.resolve().name for folder in folders]
+    if len({*names}) < len(names):
+        raise Refused(f"two of the folders have one name: {', '.join(names)}")
+    tables = [read_table(folder) for folder in folders]
+    options = dict.fromkeys(option for table in tables for option in table.options)
+    return Table([FOLDER, *options], [{FOLDER: name, **row} for name, table in zip(names, tables) for row in table.rows])
 
 
 class Results:

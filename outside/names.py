@@ -30,7 +30,7 @@ HEADING = re.compile(r"(?:(?:, )?\*\*[^*]*\*\*)+")
 OWNER = re.compile(r"(?:(?:,| and|, and) `[^`]+`)* of (?:crate )?`?(\w+)`?")
 # Spans that begin so are words of the toolchain's, and of others' tools; some names of theirs stand alone.
 FOREIGN_SPANS = re.compile(r"rt\b|rattle|valgrind|rustfmt")
-FOREIGN = set("--no-relax --only --test --incremental arg fffffcb0 lgcc slk2".split())
+FOREIGN = set("--no-relax --only --test --incremental arg fffffcb0 lgcc Ttext slk2".split())
 # The program's commands, which a text on any crate may name.
 COMMANDS = {"run", "gen", "list", "pack", "asm"}
 # Names that a text gives to what a reader has, or gives as examples.

@@ -43,6 +43,17 @@ class Examples(StudyTest):
         _, table = self.tables("scaling.md")
         self.is_as_the_page_says("scaling-barrier", table, "buses", "cores")
 
+    def test_the_workloads(self) -> None:
+        for table in self.tables("workloads.md"):
+            for study in dict.fromkeys(row for row, _ in table):
+                with self.subTest(study):
+                    ran = self.tool("run", STUDIES / f"{study}.toml", "--out", self.folder / study)
+                    self.assertEqual(ran.returncode, 0, ran.stderr)
+                    self.out = self.folder / study
+                    self.assertEqual({it["status"] for it in self.rows()}, {"0"})
+                    wanted = {column: cell for (row, column), cell in table.items() if row == study}
+                    self.assertEqual({it.get("sets") or it["cores"]: it["cycles"] for it in self.rows()}, wanted)
+
     def test_the_simulators_faults(self) -> None:
         image = f'image = "{TOP}/examples/letters.slk1"\n'
         faults = {

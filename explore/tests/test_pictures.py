@@ -2,9 +2,10 @@
 
 import unittest
 import xml.etree.ElementTree as ElementTree
+from pathlib import Path
 
 from explore.faults import Refused
-from explore.results import Row, Table
+from explore.results import Row, Table, read_tables
 from explore.terms import Line, lines_of, read_term
 from explore.tests.support import StudyTest, has
 
@@ -73,8 +74,8 @@ class Plots(StudyTest):
         (self.out / "results.csv").write_text(table().text())
         (self.out / "study.toml").write_text('text = "programs/walk.s"\n')
 
-    def plot(self, *words: str, name: str = "a.svg", status: int = 0) -> str:
-        ran = self.tool("plot", self.out, "-o", self.folder / name, *words)
+    def plot(self, *words: str | Path, name: str = "a.svg", status: int = 0) -> str:
+        ran = self.tool("plot", self.out, *words, "-o", self.folder / name)
         self.assertEqual(ran.returncode, status, ran.stderr)
         return ran.stderr
 
@@ -105,6 +106,35 @@ class Plots(StudyTest):
         text = (self.out / "results.csv").read_text()
         (self.out / "results.csv").write_text(text.replace("exit", "running", 1))
         self.assertIn("1 points aren't shown", self.plot("--x", "ways", "--y", "cycles", "--lines", "cores"))
+
+    def second(self, name: str) -> Path:
+        """Another folder, with a table of one option alone, whose points are faster."""
+        folder = self.folder / name
+        folder.mkdir(parents=True)
+        rows: list[Row] = [{**row, "cycles": str(int(row["cycles"]) // 2)} for row in table().rows if row.pop("cores") == "1"]
+        (folder / "results.csv").write_text(Table(["ways"], rows).text())
+        (folder / "study.toml").write_text('text = "run.s"\n')
+        return folder
+
+    def test_tables_of_several_folders(self) -> None:
+        joined = read_tables([self.out, self.second("other")])
+        self.assertEqual(joined.options, ["folder", "cores", "ways"])
+        chosen = [row for row in joined.rows if row.get("cores") != "2"]
+        wanted = [Line("folder = other", [(1, 500), (8, 450), (16, 400)]), Line("folder = out", [(1, 1000), (8, 900), (16, 800)])]
+        self.assertEqual(lines_of(joined, chosen, "ways", read_term("cycles", joined), "folder"), wanted)
+        speed_up = lines_of(joined, chosen, "ways", read_term("cycles@ways=1/cycles", joined), "folder")
+        self.assertEqual([line.points[2] for line in speed_up], [(16, 1.25), (16, 1.25)])
+
+    @unittest.skipUnless(has("matplotlib"), "python3-matplotlib isn't there")
+    def test_a_picture_of_several_folders(self) -> None:
+        other = self.second("other")
+        self.assertIn("two points have ways = 1 and folder = out", self.plot(other, "--x", "ways", "--y", "cycles", "--lines", "folder", status=2))
+        self.plot(other, "--x", "ways", "--y", "cycles", "--lines", "cores", "--where", "folder=out")
+        self.assertIn("walk.s, run.s, folder = out", self.texts())
+
+    def test_folders_of_one_name(self) -> None:
+        said = self.plot(self.second("more/out"), "--x", "ways", "--y", "cycles", status=2)
+        self.assertIn("two of the folders have one name: out, out", said)
 
     def test_what_is_refused(self) -> None:
         self.assertIn("colour: no column", self.plot("--x", "colour", "--y", "cycles", status=2))
