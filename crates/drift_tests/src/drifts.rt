@@ -1,6 +1,9 @@
 //! Drifts from the start, and what is found of them.
-ghost use Rattle.std.specs.Prelude.{◌≤◌};
+ghost use Rattle.std.specs.Prelude.{◌≡◌, ◌≤◌};
 ghost use Rattle.slack_base.specs.declared.bounds.TheConstants.{TOP};
+ghost use Rattle.slack_base.specs.Images.{Fits};
+ghost use Rattle.slack_base.specs.Numbers.{numbers_of};
+ghost use Rattle.timed_core.specs.Code.{code_of};
 
 use crate::machines::{Setup, are_same, begun};
 use crate::replays::{Verdict, is_scanned, is_whole, judge};
@@ -42,6 +45,8 @@ fn drifted_in_turn(
     pace: &Pace,
     gate: &StopGate,
 ) -> Result<Drifted<RvTarget>, OutOfMemory>
+    requires fits { Fits setup.now.target.config.base setup.now.target.config.memory setup.now.image }
+    requires code { setup.now.target.code ≡ code_of setup.now.image (numbers_of setup.now.target.config) }
     requires cycles { cycles ≤ 1000 }
     requires slack { (1 ≤ pace.now.slack) × (pace.now.slack ≤ TOP) }
     requires slots { 1 ≤ pace.now.slots }
@@ -58,6 +63,8 @@ pub fn in_turn(
     pace: &Pace,
     gate: &StopGate,
 ) -> Result<Verdict, OutOfMemory>
+    requires fits { Fits setup.now.target.config.base setup.now.target.config.memory setup.now.image }
+    requires code { setup.now.target.code ≡ code_of setup.now.image (numbers_of setup.now.target.config) }
     requires cycles { cycles ≤ 1000 }
     requires slack { (1 ≤ pace.now.slack) × (pace.now.slack ≤ TOP) }
     requires slots { 1 ≤ pace.now.slots }
@@ -75,6 +82,8 @@ pub fn is_repeated(
     pace: &Pace,
     gate: &StopGate,
 ) -> Result<bool, OutOfMemory>
+    requires fits { Fits setup.now.target.config.base setup.now.target.config.memory setup.now.image }
+    requires code { setup.now.target.code ≡ code_of setup.now.image (numbers_of setup.now.target.config) }
     requires cycles { cycles ≤ 1000 }
     requires slack { (1 ≤ pace.now.slack) × (pace.now.slack ≤ TOP) }
     requires slots { 1 ≤ pace.now.slots }
@@ -97,6 +106,8 @@ pub fn at_once<R: Threads + Sync>(
     pace: &Pace,
     gate: &StopGate,
 ) -> Result<Verdict, OutOfMemory>
+    requires fits { Fits setup.now.target.config.base setup.now.target.config.memory setup.now.image }
+    requires code { setup.now.target.code ≡ code_of setup.now.image (numbers_of setup.now.target.config) }
     requires cycles { cycles ≤ 1000 }
     requires slack { (1 ≤ pace.now.slack) × (pace.now.slack ≤ TOP) }
     requires slots { 1 ≤ pace.now.slots }
@@ -113,7 +124,9 @@ pub fn scripted(
     cycles: u64,
     steps: &StepList,
 ) -> Result<Verdict, OutOfMemory>
-    requires { cycles ≤ 1000 }
+    requires fits { Fits setup.now.target.config.base setup.now.target.config.memory setup.now.image }
+    requires code { setup.now.target.code ≡ code_of setup.now.image (numbers_of setup.now.target.config) }
+    requires top { cycles ≤ 1000 }
 {
     let machine = begun(alloc, setup)?;
     let drifted = drive(alloc, &setup.target, machine, cycles, steps)?;

@@ -59,8 +59,6 @@ pub fn cores(cores: u32) -> RawConfig {
 pub struct Setup {
     pub image: Image,
     pub target: RvTarget,
-    ghost fits: { Fits target.config.base target.config.memory image },
-    ghost code: { target.code ≡ code_of image (numbers_of target.config) },
 }
 
 /// The image of a program.
@@ -98,7 +96,10 @@ pub fn setup_of<R: Abort + AllocGlobal>(
     rt: &R,
     numbers: RawConfig,
     runs: &Program,
-) -> Result<Setup, Fail> {
+) -> Result<Setup, Fail>
+    ensures fits { IfOk result (λ setup. Fits setup.target.config.base setup.target.config.memory setup.image) }
+    ensures code { IfOk result (λ setup. setup.target.code ≡ code_of setup.image (numbers_of setup.target.config)) }
+{
     let config = Config::checked(numbers).expect(rt, "a configuration within its bounds");
     let image = image_of(rt, &config, runs)?;
     let target = RvTarget::make(rt.alloc(), config, &image)?;
@@ -107,6 +108,8 @@ pub fn setup_of<R: Abort + AllocGlobal>(
 
 /// The machine before the first cycle.
 pub fn begun(alloc: Global, setup: &Setup) -> Result<Machine, OutOfMemory>
+    requires fits { Fits setup.now.target.config.base setup.now.target.config.memory setup.now.image }
+    requires code { setup.now.target.code ≡ code_of setup.now.image (numbers_of setup.now.target.config) }
     ensures proper { let t = setup.now.target in IfOk result (λ m. IsProper (rules_of (numbers_of t.config) t.code) (owns_of (numbers_of t.config)) (machine_of m)) }
     ensures clock { IfOk result (λ m. m.clock ≡ 0) }
 {
@@ -115,7 +118,9 @@ pub fn begun(alloc: Global, setup: &Setup) -> Result<Machine, OutOfMemory>
 
 /// The machine in lockstep at a clock.
 pub fn lockstep(alloc: Global, setup: &Setup, clock: u64) -> Result<Machine, OutOfMemory>
-    requires { clock ≤ TOP }
+    requires fits { Fits setup.now.target.config.base setup.now.target.config.memory setup.now.image }
+    requires code { setup.now.target.code ≡ code_of setup.now.image (numbers_of setup.now.target.config) }
+    requires top { clock ≤ TOP }
     ensures proper { let t = setup.now.target in IfOk result (λ m. IsProper (rules_of (numbers_of t.config) t.code) (owns_of (numbers_of t.config)) (machine_of m)) }
     ensures clock { IfOk result (λ m. m.clock ≡ clock) }
 {
@@ -131,7 +136,9 @@ pub fn is_lockstep(
     clock: u64,
     machine: &Machine,
 ) -> Result<bool, OutOfMemory>
-    requires { clock ≤ TOP }
+    requires fits { Fits setup.now.target.config.base setup.now.target.config.memory setup.now.image }
+    requires code { setup.now.target.code ≡ code_of setup.now.image (numbers_of setup.now.target.config) }
+    requires top { clock ≤ TOP }
 {
     let other = lockstep(alloc, setup, clock)?;
     Ok(are_same(machine, &other))

@@ -2,9 +2,11 @@
 ghost use Rattle.std.specs.Prelude.{◌≡◌, ◌+◌, ◌≤◌, IfOk};
 ghost use Rattle.checkpoint.specs.Marked.{IsMarkedWhole};
 ghost use Rattle.slack_base.specs.declared.bounds.TheConstants.{TOP};
+ghost use Rattle.slack_base.specs.Images.{Fits};
 ghost use Rattle.slack_base.specs.Numbers.{numbers_of};
 ghost use Rattle.target_law.specs.Marks.{IsMarkedAt};
 ghost use Rattle.target_law.specs.Proper.{IsProper};
+ghost use Rattle.timed_core.specs.Code.{code_of};
 ghost use Rattle.lockstep_model.specs.Rules.{owns_of, rules_of, stored_values};
 ghost use Rattle.lockstep_model.specs.Views.{machine_of};
 
@@ -78,7 +80,9 @@ struct Returned {
 
 /// A machine is marked at a clock, drifts over so many cycles, and is taken back.
 fn take_back(alloc: Global, setup: &Setup, clock: u64, cycles: u64) -> Result<Returned, OutOfMemory>
-    requires { (clock ≤ 1000) × (cycles ≤ 1000) }
+    requires fits { Fits setup.now.target.config.base setup.now.target.config.memory setup.now.image }
+    requires code { setup.now.target.code ≡ code_of setup.now.image (numbers_of setup.now.target.config) }
+    requires top { (clock ≤ 1000) × (cycles ≤ 1000) }
 {
     let machine = lockstep(alloc, setup, clock)?;
     let Away {

@@ -1,7 +1,9 @@
 //! Drifts, gone through once more by plain code: what each core does alone with the posts that it took, and what the bus does
 //! with the asks in the order in which they were served.
 ghost use Rattle.std.specs.Prelude.{◌≡◌, ◌<◌, ◌≤◌, Some, IsTrue, OnOk};
+ghost use Rattle.slack_base.specs.Images.{Fits};
 ghost use Rattle.slack_base.specs.Numbers.{numbers_of};
+ghost use Rattle.timed_core.specs.Code.{code_of};
 ghost use Rattle.bus_model.specs.Asks.{IsAskOf};
 ghost use Rattle.bus_model.specs.Channels.{bus_setting};
 ghost use Rattle.bus_model.specs.Settings.{setting_of};
@@ -45,7 +47,9 @@ pub fn judge(
     cycles: u64,
     drifted: &Drifted<RvTarget>,
 ) -> Result<Verdict, OutOfMemory>
-    requires { cycles ≤ 1000 }
+    requires fits { Fits setup.now.target.config.base setup.now.target.config.memory setup.now.image }
+    requires code { setup.now.target.code ≡ code_of setup.now.image (numbers_of setup.now.target.config) }
+    requires top { cycles ≤ 1000 }
 {
     let drift = &drifted.drift;
     let end = &drifted.end;
@@ -186,7 +190,10 @@ fn is_served(
     setup: &Setup,
     drift: &Drift,
     end: &Machine,
-) -> Result<bool, OutOfMemory> {
+) -> Result<bool, OutOfMemory>
+    requires fits { Fits setup.now.target.config.base setup.now.target.config.memory setup.now.image }
+    requires code { setup.now.target.code ≡ code_of setup.now.image (numbers_of setup.now.target.config) }
+{
     let Some(last) = end.chans.get(0) else {
         return Ok(false);
     };

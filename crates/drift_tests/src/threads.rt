@@ -1,6 +1,9 @@
 //! Drifts by threads of cores that share lines, gone through once more by plain code.
-ghost use Rattle.std.specs.Prelude.{◌≤◌};
+ghost use Rattle.std.specs.Prelude.{◌≡◌, ◌≤◌};
 ghost use Rattle.slack_base.specs.declared.bounds.TheConstants.{TOP};
+ghost use Rattle.slack_base.specs.Images.{Fits};
+ghost use Rattle.slack_base.specs.Numbers.{numbers_of};
+ghost use Rattle.timed_core.specs.Code.{code_of};
 
 use crate::drifts::{at_once, gate_of, pace_of};
 use crate::machines::{LOADS, Program, STORES, Setup, begun, cores, setup_of};
@@ -102,6 +105,8 @@ fn in_time<R: Threads + Sync>(
     pace: &Pace,
     gate: &StopGate,
 ) -> Result<(usize, usize), OutOfMemory>
+    requires fits { Fits setup.now.target.config.base setup.now.target.config.memory setup.now.image }
+    requires code { setup.now.target.code ≡ code_of setup.now.image (numbers_of setup.now.target.config) }
     requires slack { (1 ≤ pace.now.slack) × (pace.now.slack ≤ TOP) }
     requires slots { 1 ≤ pace.now.slots }
 {
