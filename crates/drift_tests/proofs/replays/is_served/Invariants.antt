@@ -6,4 +6,4 @@ use Rattle.drift_tests.proofs.replays.is_served.Given as goal
 
 -- the bus has the setting of its number
 abbrev pub invariant-loop-ask : goal.invariant-loop-ask
-invariant-loop-ask g l = bus_setting l.bus.value ≡ Some (setting_of (numbers_of l.config) 0)
+invariant-loop-ask l = bus_setting l.bus.value ≡ Some (setting_of (numbers_of l.config) 0)
